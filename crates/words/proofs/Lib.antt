@@ -1,1 +1,4 @@
 pub mod Powers
+pub mod LaneLaws
+pub mod LaneTypes
+pub mod CountLaws

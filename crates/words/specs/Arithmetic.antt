@@ -1,5 +1,5 @@
 -- The arithmetic of words and of lanes.
-use Prim.Native.Nat.{ℕ, suc, _+_, _-_, _*_, _/_, _%_, _^_}
+use Prim.Native.Nat.{ℕ, _+_, _-_, _*_, _/_, _%_, _^_}
 use mathlib.Core.Bool.{cond}
 use lib.Dec.{ltb}
 use Rattle.words.specs.Signed.{belowSigned}

@@ -1,5 +1,5 @@
 -- Words as signed numbers: two's complement, sign extension, and the signed order.
-use Prim.Native.Nat.{ℕ, suc, _+_, _-_, _%_, _^_, pred}
+use Prim.Native.Nat.{ℕ, suc, _+_, _-_, _%_, _^_}
 use mathlib.Core.Bool.{Bool, cond}
 use lib.Dec.{ltb}
 use lib.IntN.{ℤ, pos, negsuc}

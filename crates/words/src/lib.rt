@@ -1,5 +1,12 @@
 // Every number rule that the device needs, as pure functions.
 pub mod arithmetic;
+pub mod bitwise;
 pub mod bytes;
+pub mod compare;
+pub mod counts;
 pub mod fields;
+pub mod halves;
+pub mod lanes;
+pub mod lanes16;
+pub mod lanes8;
 pub mod signed;
