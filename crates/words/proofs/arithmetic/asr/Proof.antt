@@ -3,7 +3,6 @@ use borrow.Author.Tests.{lt-ltb, le-ltb}
 use native.Mathlib.Omega.{arith}
 use lib.Pow.{shr-le}
 use Prim.Native.Nat.{_-_, _%_}
-use native.Mathlib.Nat.{le-trans}
 use Rattle.words.specs.Arithmetic.{shiftedSigned}
 use borrow.Author.Needs.{needs}
 use Rattle.words.proofs.arithmetic.asr.Statement.{statement}
@@ -19,7 +18,7 @@ shr-result-2 : tie.Need-shr-result-2
 shr-result-2 c = search needs
 
 sub-result-2 : tie.Need-sub-result-2
-sub-result-2 c = le-trans (shr-le (4294967295 - c .before .args .a) (c .before .args .b % 32)) (omega arith)
+sub-result-2 c = omega (arith, shr-le (4294967295 - c .before .args .a) (c .before .args .b % 32))
 
 returns : tie.Need-returns
 unfolding shiftedSigned
