@@ -20,13 +20,14 @@ pub one-lane-more : (k n w : ℕ) → w % 2 ^ (k * suc n) ≡ lane k n w * 2 ^ (
 one-lane-more k n w = ap (λ (x : ℕ). w % 2 ^ x) (sym (next k n)) ∙ mod-pow-add w k (k * n)
 
 -- the lanes below n are those of the low n lanes
+apart : (k i d : ℕ) → k * (suc i + d) ≡ k * d + (k + k * i)
+apart k i d = mul-add k (suc i) d ∙ add-comm (k * suc i) (k * d) ∙ ap (λ (x : ℕ). k * d + x) (sym (next k i))
+
 pub lane-of-low : (k n i w : ℕ) → i < n → lane k i (w % 2 ^ (k * n)) ≡ lane k i w
 lane-of-low k n i w h =
     let d = le-dest h in
-    let whole : k * n ≡ k * d .0 + (k + k * i) =
-    ap (λ (x : ℕ). k * x) (sym (d .1)) ∙ mul-add k (suc i) (d .0) ∙ add-comm (k * suc i) (k * d .0) ∙ ap (λ (x : ℕ). k * d .0 + x) (sym (next k i)) in
     sym (field (w % 2 ^ (k * n)) k (k * i))
-    ∙ ap (λ (x : ℕ). w % 2 ^ x % 2 ^ (k + k * i) / 2 ^ (k * i)) whole
+    ∙ ap (λ (x : ℕ). w % 2 ^ x % 2 ^ (k + k * i) / 2 ^ (k * i)) (ap (λ (x : ℕ). k * x) (sym (d .1)) ∙ apart k i (d .0))
     ∙ ap (λ (x : ℕ). x / 2 ^ (k * i)) (mod-mod-pow w (k * d .0) (k + k * i))
     ∙ field w k (k * i)
 
@@ -73,9 +74,9 @@ module _ (f : ℕ → ℕ → ℕ) (k : ℕ) (fits : (x y : ℕ) → x < 2 ^ k �
           lane-kept k n i (f (lane k n a) (lane k n b)) (lanewise f k n a b) (le-of-suc-le-suc l) ∙ below (le-of-suc-le-suc l)
 
   -- so no lane of the result depends on another lane: words that agree in lane i give results that agree in lane i
-  pub lanes-apart : (n a b a′ b′ i : ℕ) → i < n → lane k i a ≡ lane k i a′ → lane k i b ≡ lane k i b′
+  pub lanewise-apart : (n a b a′ b′ i : ℕ) → i < n → lane k i a ≡ lane k i a′ → lane k i b ≡ lane k i b′
       → lane k i (lanewise f k n a b) ≡ lane k i (lanewise f k n a′ b′)
-  lanes-apart n a b a′ b′ i h p q = lanewise-lane n a b i h ∙ ap₂ f p q ∙ sym (lanewise-lane n a′ b′ i h)
+  lanewise-apart n a b a′ b′ i h p q = lanewise-lane n a b i h ∙ ap₂ f p q ∙ sym (lanewise-lane n a′ b′ i h)
 
   -- and a number of n lanes with those lanes is the result
   pub lanewise-only : (n a b r : ℕ) → r < 2 ^ (k * n) → ((i : ℕ) → i < n → lane k i r ≡ f (lane k i a) (lane k i b)) → r ≡ lanewise f k n a b
