@@ -1,10 +1,11 @@
 -- The laws of lanes, over the width k and the number n of the lanes.
 -- Assumes nothing.
-use mathlib.Core.Path.{_≡_, sym, ap, ap₂, _∙_, subst⁻¹}
+use mathlib.Core.Path.{_≡_, refl, sym, ap, ap₂, _∙_, subst⁻¹}
 use mathlib.Core.Logic.{_⊎_, inl, inr}
 use Prim.Native.Nat.{ℕ, zero, suc, _+_, _*_, _/_, _%_, _^_, _<_}
 use native.Mathlib.Nat.{add-comm, mul-add, mul-zero, mul-suc, mod-one, mod-lt, mod-eq-of-lt, mul-add-mod-self-right, le-dest, eq-or-lt-of-le, le-of-suc-le-suc, suc-inj, not-suc-le-zero, lt-trans, lt-suc-self}
 use lib.Arith.{digits-lt}
+use lib.Bits.{bitXor, bitAnd, bitOr, xor-block, and-block, or-block}
 use lib.Pow.{pow-pos, pow-add, high, field, mod-pow-add, mod-mod-pow}
 use Rattle.words.specs.Lanes.{lane, lanewise}
 
@@ -87,10 +88,19 @@ module _ (f : ℕ → ℕ → ℕ) (k : ℕ) (fits : (x y : ℕ) → x < 2 ^ k �
 -- an operation that works on each run of bits apart works on the whole word at once, whatever the lanes' width
 module _ (op : ℕ → ℕ → ℕ) (none : op 0 0 ≡ 0)
     (block : (k a b r s : ℕ) → r < 2 ^ k → s < 2 ^ k → op (a * 2 ^ k + r) (b * 2 ^ k + s) ≡ op a b * 2 ^ k + op r s) where
-  pub lanewise-whole : (k n a b : ℕ) → lanewise op k n a b ≡ op (a % 2 ^ (k * n)) (b % 2 ^ (k * n))
+  lanewise-whole : (k n a b : ℕ) → lanewise op k n a b ≡ op (a % 2 ^ (k * n)) (b % 2 ^ (k * n))
   unfolding lanewise
   lanewise-whole k zero a b = simp (mul-zero, mod-one) (sym none)
   lanewise-whole k (suc n) a b =
       ap (λ (x : ℕ). op (lane k n a) (lane k n b) * 2 ^ (k * n) + x) (lanewise-whole k n a b)
       ∙ sym (block (k * n) (lane k n a) (lane k n b) (a % 2 ^ (k * n)) (b % 2 ^ (k * n)) (mod-lt a (pow-pos (k * n))) (mod-lt b (pow-pos (k * n))))
       ∙ ap₂ op (sym (one-lane-more k n a)) (sym (one-lane-more k n b))
+
+pub lanewise-xor : (k n a b : ℕ) → lanewise bitXor k n a b ≡ bitXor (a % 2 ^ (k * n)) (b % 2 ^ (k * n))
+lanewise-xor = lanewise-whole bitXor refl xor-block
+
+pub lanewise-and : (k n a b : ℕ) → lanewise bitAnd k n a b ≡ bitAnd (a % 2 ^ (k * n)) (b % 2 ^ (k * n))
+lanewise-and = lanewise-whole bitAnd refl and-block
+
+pub lanewise-or : (k n a b : ℕ) → lanewise bitOr k n a b ≡ bitOr (a % 2 ^ (k * n)) (b % 2 ^ (k * n))
+lanewise-or = lanewise-whole bitOr refl or-block

@@ -1,10 +1,10 @@
 -- The laws of an operation on a word of lanes, by the lanes' type.
 -- Assumes nothing.
 use mathlib.Core.Path.{_≡_, refl, ap, ap₂, _∙_, subst}
-use Prim.Native.Nat.{ℕ, _+_, _*_, _%_, _^_, _<_}
+use Prim.Native.Nat.{ℕ, _*_, _%_, _^_, _<_}
 use native.Mathlib.Nat.{mod-eq-of-lt, div-one}
 use native.Mathlib.Omega.{arith}
-use lib.Bits.{bitXor, bitAnd, bitOr, xor-lt, and-lt, or-lt, xor-block, and-block, or-block}
+use lib.Bits.{bitXor, bitAnd, bitOr, xor-lt, and-lt, or-lt}
 use Rattle.words.specs.Bytes.{wordOf, byteOf}
 use Rattle.words.specs.Halves.{wordOfHalves, halfAt}
 use Rattle.words.specs.Lanes.{lane, lanewise, laneBits, laneCount, laneOf, lanesOf}
@@ -12,7 +12,7 @@ use Rattle.words.specs.declared.lanes.LaneOp.{LaneOp}
 use Rattle.words.specs.declared.lanes.LaneOp.the-variants.{Add, Sub, Xor, And, Or, Mul}
 use Rattle.words.specs.declared.lanes.LaneType.{LaneType}
 use Rattle.words.specs.declared.lanes.LaneType.the-variants.{I32, I16, I8}
-use Rattle.words.proofs.LaneLaws.{lanewise-below, lanewise-lane, lanewise-apart, lanewise-only, lanewise-whole}
+use Rattle.words.proofs.LaneLaws.{lanewise-below, lanewise-lane, lanewise-apart, lanewise-only, lanewise-xor, lanewise-and, lanewise-or}
 use Rattle.words.proofs.WordLaws.{sum-below, difference-below, product-below}
 
 -- the lanes fill the word
@@ -61,25 +61,23 @@ module _ (op : LaneOp) (ty : LaneType) where
 
 -- a bitwise operation is that operation on the whole word
 module _ (ty : LaneType) (a b : ℕ) (ha : a < 2 ^ 32) (hb : b < 2 ^ 32) where
-  whole : (op : ℕ → ℕ → ℕ) → op 0 0 ≡ 0
-      → ((k x y r s : ℕ) → r < 2 ^ k → s < 2 ^ k → op (x * 2 ^ k + r) (y * 2 ^ k + s) ≡ op x y * 2 ^ k + op r s)
+  whole : (op : ℕ → ℕ → ℕ)
+      → lanewise op (laneBits ty) (laneCount ty) a b ≡ op (a % 2 ^ (laneBits ty * laneCount ty)) (b % 2 ^ (laneBits ty * laneCount ty))
       → lanewise op (laneBits ty) (laneCount ty) a b ≡ op a b
-  whole op none block =
-      lanewise-whole op none block (laneBits ty) (laneCount ty) a b
-      ∙ ap (λ (x : ℕ). op (a % 2 ^ x) (b % 2 ^ x)) (lanes-fill ty)
-      ∙ ap₂ op (mod-eq-of-lt ha) (mod-eq-of-lt hb)
+  whole op e =
+      e ∙ ap (λ (x : ℕ). op (a % 2 ^ x) (b % 2 ^ x)) (lanes-fill ty) ∙ ap₂ op (mod-eq-of-lt ha) (mod-eq-of-lt hb)
 
   pub lanesOf-xor : lanesOf Xor ty a b ≡ bitXor a b
   unfolding lanesOf
-  lanesOf-xor = whole bitXor refl xor-block
+  lanesOf-xor = whole bitXor (lanewise-xor (laneBits ty) (laneCount ty) a b)
 
   pub lanesOf-and : lanesOf And ty a b ≡ bitAnd a b
   unfolding lanesOf
-  lanesOf-and = whole bitAnd refl and-block
+  lanesOf-and = whole bitAnd (lanewise-and (laneBits ty) (laneCount ty) a b)
 
   pub lanesOf-or : lanesOf Or ty a b ≡ bitOr a b
   unfolding lanesOf
-  lanesOf-or = whole bitOr refl or-block
+  lanesOf-or = whole bitOr (lanewise-or (laneBits ty) (laneCount ty) a b)
 
 -- lane by lane
 module _ (op : LaneOp) (a b : ℕ) where
