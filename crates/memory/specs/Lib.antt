@@ -1,0 +1,3 @@
+pub mod After
+pub mod Address
+pub mod Place

@@ -1,0 +1,3 @@
+// Everything that touches a lent window of bytes. Addresses count from its start.
+pub mod address;
+pub mod place;
