@@ -8,3 +8,8 @@ use Rattle.memory.specs.declared.address.Reach.the-variants.{Inside, Out
 -- do `count` bytes from `address` on lie wholly in a window of `length` bytes; nothing wraps
 unfoldable pub reachOf : ℕ → ℕ → ℕ → Reach
 reachOf length address count = cond (leb (address + count) length) Inside Outside
+
+-- the first of two if the bytes lie inside, else the second
+unfoldable pub ifInside : {A : Type 0} → Reach → A → A → A
+ifInside Inside x y = x
+ifInside Outside x y = y

@@ -1,3 +1,5 @@
 // Everything that touches a lent window of bytes. Addresses count from its start.
+pub mod access;
 pub mod address;
 pub mod place;
+pub mod quad;
