@@ -5,3 +5,4 @@ pub mod Rows
 pub mod Filled
 pub mod Copied
 pub mod Transferred
+pub mod Window

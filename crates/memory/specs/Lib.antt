@@ -6,3 +6,4 @@ pub mod Quad
 pub mod Rectangle
 pub mod Copy
 pub mod Transfer
+pub mod Window
