@@ -2,10 +2,11 @@
 use Rattle.memory.proofs.Copied.{blitted-none, blitted-more, blitted-empty}
 use Rattle.memory.proofs.Rows.{row-inside}
 use Rattle.memory.specs.Copy.{blitted}
+use Rattle.memory.specs.Rectangle.{rectangleEnd}
 use native.Mathlib.Omega.{arith}
 use denote.Ref.{now}
 use lib.ListN.{length}
-use Prim.Native.Nat.{_≤_, _+_, _-_, _*_}
+use Prim.Native.Nat.{ℕ, _≤_, _+_, _-_, _*_}
 use mathlib.Core.Path.{_≡_, refl, sym}
 use Rattle.memory.proofs.copy.blit.Statement.{statement}
 use Rattle.memory.proofs.copy.blit.Tie as tie
@@ -16,18 +17,22 @@ Inv-loop window₀ to from stride width height y₀ window y = (y ≤ height) ×
 abbrev μ-loop : tie.MeasureT-loop
 μ-loop window₀ to from stride width height y₀ window y = height - y
 
--- both rows of this turn lie inside
-rows : (c : tie.After-copy-arg Inv-loop μ-loop) →
-    let a = c .before .before .before .before .before .args in
-    let l = c .before .before .loop in
-    (a .to + l .y * a .stride + 4 * a .width ≤ length (now (a .window))) × (a .from + l .y * a .stride + 4 * a .width ≤ length (now (a .window)))
+-- the row of this turn lies inside, on either side
+row : (c : tie.In-loop Inv-loop μ-loop) (address : ℕ) →
+    let a = c .before .before .before .before .args in
+    rectangleEnd address (a .stride) (a .width) (a .height) ≤ length (now (a .window))
+    → address + c .before .loop .y * a .stride + 4 * a .width ≤ length (now (a .window))
+row c address =
+    let a = c .before .before .before .before .args in
+    row-inside address (a .stride) (a .width) (a .height) (c .before .loop .y) (length (now (a .window))) (omega arith) (omega arith)
+
+rows : (c : tie.In-loop Inv-loop μ-loop) →
+    let a = c .before .before .before .before .args in
+    (a .to + c .before .loop .y * a .stride + 4 * a .width ≤ length (now (a .window)))
+    × (a .from + c .before .loop .y * a .stride + 4 * a .width ≤ length (now (a .window)))
 rows c =
-    let a = c .before .before .before .before .before .args in
-    let l = c .before .before .loop in
-    let pre = c .before .before .before .before .before .pre in (
-      row-inside (a .to) (a .stride) (a .width) (a .height) (l .y) (length (now (a .window))) (omega arith) (omega arith) (pre .0),
-      row-inside (a .from) (a .stride) (a .width) (a .height) (l .y) (length (now (a .window))) (omega arith) (omega arith) (pre .1),
-    )
+    let start = c .before .before .before .before in
+    (row c (start .args .to) (start .pre .0), row c (start .args .from) (start .pre .1))
 
 returns : tie.Need-returns Inv-loop μ-loop
 returns c = rw (c .if1 .taken, blitted-empty)
@@ -35,20 +40,17 @@ returns c = rw (c .if1 .taken, blitted-empty)
 loop-holds : tie.Need-loop-holds Inv-loop μ-loop
 loop-holds c = (omega arith, refl, sym (blitted-none _ _ _ _ _))
 
-mul-copy : tie.Need-mul-copy Inv-loop μ-loop
-mul-copy c = omega (arith, rows c)
+mul-row : tie.Need-mul-row Inv-loop μ-loop
+mul-row c = omega (arith, rows c)
 
 add-copy : tie.Need-add-copy Inv-loop μ-loop
-add-copy c = omega (arith, rows c)
-
-mul-copy-2 : tie.Need-mul-copy-2 Inv-loop μ-loop
-mul-copy-2 c = omega (arith, rows c)
+add-copy c = omega (arith, rows (c .before))
 
 add-copy-2 : tie.Need-add-copy-2 Inv-loop μ-loop
-add-copy-2 c = omega (arith, rows c)
+add-copy-2 c = omega (arith, rows (c .before))
 
 copy-requires : tie.Need-copy-requires Inv-loop μ-loop
-copy-requires c κs = omega (arith, rows c)
+copy-requires c κs = omega (arith, rows (c .before))
 
 add-y : tie.Need-add-y Inv-loop μ-loop
 add-y c = omega arith
@@ -75,9 +77,8 @@ blit-spec =
     μ-loop
     returns
     loop-holds
-    mul-copy
+    mul-row
     add-copy
-    mul-copy-2
     add-copy-2
     copy-requires
     add-y
