@@ -11,3 +11,4 @@ pub mod Lengths
 pub mod ByteSized
 pub mod Others
 pub mod Pixels
+pub mod Accessed
