@@ -1,12 +1,11 @@
 -- `memory::copy::blit` meets its contract. Assumes nothing.
 use Rattle.memory.proofs.Copied.{blitted-none, blitted-more, blitted-empty}
-use Rattle.memory.proofs.Rows.{row-inside}
+use Rattle.memory.proofs.Rows.{row-inside, row-offset-fits, row-start-fits}
 use Rattle.memory.specs.Copy.{blitted}
-use Rattle.memory.specs.Rectangle.{rectangleEnd}
 use native.Mathlib.Omega.{arith}
 use denote.Ref.{now}
 use lib.ListN.{length}
-use Prim.Native.Nat.{ℕ, _≤_, _+_, _-_, _*_}
+use Prim.Native.Nat.{_≤_, _-_}
 use mathlib.Core.Path.{_≡_, refl, sym}
 use Rattle.memory.proofs.copy.blit.Statement.{statement}
 use Rattle.memory.proofs.copy.blit.Tie as tie
@@ -17,23 +16,6 @@ Inv-loop window₀ to from stride width height y₀ window y = (y ≤ height) ×
 abbrev μ-loop : tie.MeasureT-loop
 μ-loop window₀ to from stride width height y₀ window y = height - y
 
--- the row of this turn lies inside, on either side
-row : (c : tie.In-loop Inv-loop μ-loop) (address : ℕ) →
-    let a = c .before .before .before .before .args in
-    rectangleEnd address (a .stride) (a .width) (a .height) ≤ length (now (a .window))
-    → address + c .before .loop .y * a .stride + 4 * a .width ≤ length (now (a .window))
-row c address =
-    let a = c .before .before .before .before .args in
-    row-inside address (a .stride) (a .width) (a .height) (c .before .loop .y) (length (now (a .window))) (omega arith) (omega arith)
-
-rows : (c : tie.In-loop Inv-loop μ-loop) →
-    let a = c .before .before .before .before .args in
-    (a .to + c .before .loop .y * a .stride + 4 * a .width ≤ length (now (a .window)))
-    × (a .from + c .before .loop .y * a .stride + 4 * a .width ≤ length (now (a .window)))
-rows c =
-    let start = c .before .before .before .before in
-    (row c (start .args .to) (start .pre .0), row c (start .args .from) (start .pre .1))
-
 returns : tie.Need-returns Inv-loop μ-loop
 returns c = rw (c .if1 .taken, blitted-empty)
 
@@ -41,16 +23,24 @@ loop-holds : tie.Need-loop-holds Inv-loop μ-loop
 loop-holds c = (omega arith, refl, sym (blitted-none _ _ _ _ _))
 
 mul-row : tie.Need-mul-row Inv-loop μ-loop
-mul-row c = omega (arith, rows c)
+mul-row c =
+    let a = c .before .before .before .before .args in
+    row-offset-fits (a .to) _ (a .width) (a .height) _ (length (now (a .window))) (omega arith) (omega arith) (omega arith) (omega arith)
 
 add-copy : tie.Need-add-copy Inv-loop μ-loop
-add-copy c = omega (arith, rows (c .before))
+add-copy c =
+    let a = c .before .before .before .before .before .args in
+    row-start-fits _ _ (a .width) (a .height) _ (length (now (a .window))) (omega arith) (omega arith) (omega arith) (omega arith)
 
 add-copy-2 : tie.Need-add-copy-2 Inv-loop μ-loop
-add-copy-2 c = omega (arith, rows (c .before))
+add-copy-2 c =
+    let a = c .before .before .before .before .before .args in
+    row-start-fits _ _ (a .width) (a .height) _ (length (now (a .window))) (omega arith) (omega arith) (omega arith) (omega arith)
 
 copy-requires : tie.Need-copy-requires Inv-loop μ-loop
-copy-requires c κs = omega (arith, rows (c .before))
+copy-requires c κs =
+    let a = c .before .before .before .before .before .args in
+    (row-inside _ _ _ (a .height) _ _ (omega arith) (omega arith) (omega arith), row-inside _ _ _ (a .height) _ _ (omega arith) (omega arith) (omega arith))
 
 add-y : tie.Need-add-y Inv-loop μ-loop
 add-y c = omega arith
