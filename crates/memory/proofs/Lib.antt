@@ -1,0 +1,14 @@
+pub mod After
+pub mod Reach
+pub mod Places
+pub mod Rows
+pub mod Filled
+pub mod Copied
+pub mod Transferred
+pub mod Window
+pub mod Kept
+pub mod Lengths
+pub mod ByteSized
+pub mod Others
+pub mod Pixels
+pub mod Accessed
