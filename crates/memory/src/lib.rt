@@ -2,6 +2,7 @@
 pub mod access;
 pub mod address;
 pub mod copy;
+pub mod peek;
 pub mod place;
 pub mod quad;
 pub mod rectangle;

@@ -48,9 +48,9 @@ pub fn put_word(window: &mut [u8], at: usize, value: u32)
     requires { ⌜ at + 4 ≤ length (now window) ⌝ }
     ensures { λ _. ⌜ now (window .exit) ≡ withWord (now (window .entry)) at value ⌝ }
 {
-    let b = word_bytes(value);
-    window[at] = b.b0;
-    window[at + 1] = b.b1;
-    window[at + 2] = b.b2;
-    window[at + 3] = b.b3;
+    let bytes = word_bytes(value);
+    window[at] = bytes.b0;
+    window[at + 1] = bytes.b1;
+    window[at + 2] = bytes.b2;
+    window[at + 3] = bytes.b3;
 }

@@ -2,6 +2,7 @@
 pub mod arithmetic;
 pub mod bitwise;
 pub mod bytes;
+pub mod choice;
 pub mod compare;
 pub mod counts;
 pub mod fields;
