@@ -57,23 +57,23 @@ module _ (m : List ℕ) (a : ℕ) where
   unfolding storeQuadOf ifInside
   store-quad-outside q h = rw (reach-outside (length m) a 16 h)
 
+-- two windows agree on the bytes from `low` on and before `high`
+abbrev pub Agree : List ℕ → List ℕ → ℕ → ℕ → Type 0
+Agree m′ m low high = (j : ℕ) → low ≤ j → j < high → getD m′ j 0 ≡ getD m j 0
+
 -- a load depends on the window's length and on the bytes that it reads
 module _ (m m′ : List ℕ) (long : length m′ ≡ length m) (a : ℕ) where
-  -- the bytes from a on and before `high` agree
-  abbrev Agree : ℕ → Type 0
-  Agree high = (j : ℕ) → a ≤ j → j < high → getD m′ j 0 ≡ getD m j 0
-
-  pub value-same : (width : Width) → Agree (a + bytesOf width) → valueAt m′ width a ≡ valueAt m width a
+  pub value-same : (width : Width) → Agree m′ m a (a + bytesOf width) → valueAt m′ width a ≡ valueAt m width a
   unfolding valueAt bytesOf halfAt
   value-same Byte same = rw (same a (omega arith) (omega arith))
   value-same Half same = rw (same a (omega arith) (omega arith), same (a + 1) (omega arith) (omega arith))
   value-same Word same = word-same m m′ a same
 
-  pub load-same : (width : Width) → Agree (a + bytesOf width) → loadOf m′ width a ≡ loadOf m width a
+  pub load-same : (width : Width) → Agree m′ m a (a + bytesOf width) → loadOf m′ width a ≡ loadOf m width a
   unfolding loadOf
   load-same width same = rw (long, value-same width same)
 
-  pub load-quad-same : Agree (a + 16) → loadQuadOf m′ a ≡ loadQuadOf m a
+  pub load-quad-same : Agree m′ m a (a + 16) → loadQuadOf m′ a ≡ loadQuadOf m a
   unfolding loadQuadOf quadAt
   load-quad-same same =
       rw (

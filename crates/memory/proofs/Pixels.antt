@@ -32,6 +32,10 @@ row-after stride width y z wide h =
     let next : y + 1 ≤ z = omega arith in
     omega (arith, add-mul y 1 stride, one-mul stride, mul-le-mul-right stride next)
 
+-- byte i belongs to pixel (x, y)
+abbrev pub InPixel : ℕ → ℕ → ℕ → ℕ → ℕ → Type 0
+InPixel address stride x y i = (address + y * stride + 4 * x ≤ i) × (i < address + y * stride + 4 * x + 4)
+
 module _ (address stride width height color : ℕ) (m : List ℕ) where
   -- pixel (x, y) of a rectangle reads the color
   pub filled-pixel : color < 2 ^ 32 → 4 * width ≤ stride → rectangleEnd address stride width height ≤ length m
@@ -45,13 +49,12 @@ module _ (address stride width height color : ℕ) (m : List ℕ) where
       (λ z m′ low high. filled-row-keeps _ (address + z * stride) width color m′
       (keeps-word (address + y * stride + 4 * x) color _ _ (inl (omega (arith, row-after stride width y z wide low)))))
 
-  -- byte i belongs to pixel (x, y)
-  abbrev pub InPixel : ℕ → ℕ → ℕ → Type 0
-  InPixel x y i = (address + y * stride + 4 * x ≤ i) × (i < address + y * stride + 4 * x + 4)
-
-  pub filled-no-pixel : (i : ℕ) → ((x y : ℕ) → x < width → y < height → InPixel x y i → ⊥)
+  -- a byte of no pixel is as it was
+  pub filled-no-pixel : (i : ℕ) → ((x y : ℕ) → x < width → y < height → InPixel address stride x y i → ⊥)
       → getD (filled address stride width height color m) i 0 ≡ getD m i 0
-  filled-no-pixel i none = filled-other m i address stride width height color (λ y h. go y h (decLt i (address + y * stride)) (decLe (address + y * stride + 4 * width) i))
+  filled-no-pixel i none =
+      filled-other m i address stride width height color
+      (λ y h. go y h (decLt i (address + y * stride)) (decLe (address + y * stride + 4 * width) i))
     where
       go : (y : ℕ) → y < height → Dec (i < address + y * stride) → Dec (address + y * stride + 4 * width ≤ i)
           → Apart i (address + y * stride) (address + y * stride + 4 * width)

@@ -1,12 +1,12 @@
 -- `memory::copy::blit` meets its contract. Assumes nothing.
+use mathlib.Core.Path.{_≡_, refl, sym}
+use Prim.Native.Nat.{_≤_, _-_}
+use native.Mathlib.Omega.{arith}
+use lib.ListN.{length}
+use denote.Ref.{now}
+use Rattle.memory.specs.Copy.{blitted}
 use Rattle.memory.proofs.Copied.{blitted-none, blitted-more, blitted-empty}
 use Rattle.memory.proofs.Rows.{row-inside, row-offset-fits, row-start-fits}
-use Rattle.memory.specs.Copy.{blitted}
-use native.Mathlib.Omega.{arith}
-use denote.Ref.{now}
-use lib.ListN.{length}
-use Prim.Native.Nat.{_≤_, _-_}
-use mathlib.Core.Path.{_≡_, refl, sym}
 use Rattle.memory.proofs.copy.blit.Statement.{statement}
 use Rattle.memory.proofs.copy.blit.Tie as tie
 
@@ -49,7 +49,9 @@ loop-less : tie.Need-loop-less Inv-loop μ-loop
 loop-less c = omega arith
 
 loop-again : tie.Need-loop-again Inv-loop μ-loop
-loop-again c = (omega arith, omega arith, rw blitted-more (cc))
+loop-again c =
+    let turn = c .before .before .before .before .before .loop in
+    (omega arith, omega arith, rw (blitted-more, ← turn .inv .2) (c .before .before .copy .ensures))
 
 same-length : tie.Need-same-length Inv-loop μ-loop
 same-length c = c .before .loop .inv .1
@@ -57,7 +59,7 @@ same-length c = c .before .loop .inv .1
 returns-2 : tie.Need-returns-2 Inv-loop μ-loop
 returns-2 c =
     let all : c .before .loop .y ≡ c .before .before .before .before .args .height = omega arith in
-    cc
+    rw (← all) (c .before .loop .inv .2)
 
 pub blit-spec : {M : Type 1} → statement M
 blit-spec =

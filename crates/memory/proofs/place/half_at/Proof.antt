@@ -1,6 +1,6 @@
 -- `memory::place::half_at` meets its contract. Assumes nothing.
-use Rattle.memory.specs.Place.{halfAt}
 use borrow.Author.Needs.{needs}
+use Rattle.memory.specs.Place.{halfAt}
 use Rattle.memory.proofs.place.half_at.Statement.{statement}
 use Rattle.memory.proofs.place.half_at.Tie as tie
 
@@ -18,7 +18,7 @@ half-requires c κs = search needs
 
 returns : tie.Need-returns
 unfolding halfAt
-returns c = cc
+returns c = c .half .ensures
 
 pub half-at-spec : {M : Type 1} → statement M
 half-at-spec =

@@ -1,6 +1,6 @@
 -- `memory::place::word_at` meets its contract. Assumes nothing.
-use Rattle.memory.specs.Place.{wordAt}
 use borrow.Author.Needs.{needs}
+use Rattle.memory.specs.Place.{wordAt}
 use Rattle.memory.proofs.place.word_at.Statement.{statement}
 use Rattle.memory.proofs.place.word_at.Tie as tie
 
@@ -30,7 +30,7 @@ word-requires c κs = search needs
 
 returns : tie.Need-returns
 unfolding wordAt
-returns c = cc
+returns c = c .word .ensures
 
 pub word-at-spec : {M : Type 1} → statement M
 word-at-spec =

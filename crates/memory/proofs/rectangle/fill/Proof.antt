@@ -1,12 +1,12 @@
 -- `memory::rectangle::fill` meets its contract. Assumes nothing.
+use mathlib.Core.Path.{_≡_, refl, sym}
+use Prim.Native.Nat.{_≤_, _-_}
+use native.Mathlib.Omega.{arith}
+use lib.ListN.{length}
+use denote.Ref.{now}
+use Rattle.memory.specs.Rectangle.{filled}
 use Rattle.memory.proofs.Filled.{filled-none, filled-more, filled-empty}
 use Rattle.memory.proofs.Rows.{row-inside, row-offset-fits, row-start-fits}
-use Rattle.memory.specs.Rectangle.{filled}
-use native.Mathlib.Omega.{arith}
-use denote.Ref.{now}
-use lib.ListN.{length}
-use Prim.Native.Nat.{_≤_, _-_}
-use mathlib.Core.Path.{_≡_, refl, sym}
 use Rattle.memory.proofs.rectangle.fill.Statement.{statement}
 use Rattle.memory.proofs.rectangle.fill.Tie as tie
 
@@ -47,7 +47,9 @@ loop-less : tie.Need-loop-less Inv-loop μ-loop
 loop-less c = omega arith
 
 loop-again : tie.Need-loop-again Inv-loop μ-loop
-loop-again c = (omega arith, omega arith, rw filled-more (cc))
+loop-again c =
+    let turn = c .before .before .before .before .before .loop in
+    (omega arith, omega arith, rw (filled-more, ← turn .inv .2) (c .before .before .fill-row .ensures))
 
 same-length : tie.Need-same-length Inv-loop μ-loop
 same-length c = c .before .loop .inv .1
@@ -55,7 +57,7 @@ same-length c = c .before .loop .inv .1
 returns-2 : tie.Need-returns-2 Inv-loop μ-loop
 returns-2 c =
     let all : c .before .loop .y ≡ c .before .before .before .before .args .height = omega arith in
-    cc
+    rw (← all) (c .before .loop .inv .2)
 
 pub fill-spec : {M : Type 1} → statement M
 fill-spec =
