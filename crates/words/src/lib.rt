@@ -10,3 +10,4 @@ pub mod lanes;
 pub mod lanes16;
 pub mod lanes8;
 pub mod signed;
+pub mod choice;

@@ -1,0 +1,169 @@
+use borrow.Author.Needs.{needs}
+use Rattle.kernel.proofs.step.apply.Statement.{statement}
+use Rattle.kernel.proofs.step.apply.Tie as tie
+use Rattle.kernel.proofs.step.apply.Reads as reads
+use Rattle.kernel.proofs.step.apply.Lts as lts
+use Rattle.kernel.proofs.step.after_store.Reads as after-store-reads
+use Rattle.kernel.proofs.step.branch.Reads as branch-reads
+use Rattle.kernel.proofs.step.end.Reads as end-reads
+use Rattle.kernel.proofs.step.go_on.Reads as go-on-reads
+use Rattle.kernel.proofs.step.stop.Reads as stop-reads
+use Rattle.kernel.proofs.thread.Thread.write.Reads as write-reads
+use Rattle.kernel.proofs.thread.Thread.write_vector.Reads as write-vector-reads
+use Rattle.memory.proofs.access.store.Reads as store-reads
+use Rattle.memory.proofs.quad.store_quad.Reads as store-quad-reads
+
+-- src/step.rt:87:21
+enum-known-effect : tie.Need-enum-known-effect
+enum-known-effect c = search needs
+
+-- src/step.rt:87:33
+write-requires : tie.Need-write-requires
+write-requires c κs = search needs
+
+-- src/step.rt:87:27
+go-on-requires : tie.Need-go-on-requires
+go-on-requires c κs = ?
+
+-- src/step.rt:88:25
+enum-known-effect-2 : tie.Need-enum-known-effect-2
+enum-known-effect-2 c = search needs
+
+-- src/step.rt:88:41
+write-vector-requires : tie.Need-write-vector-requires
+write-vector-requires c κs = search needs
+
+-- src/step.rt:88:35
+go-on-requires-2 : tie.Need-go-on-requires-2
+go-on-requires-2 c κs = ?
+
+-- src/step.rt:89:23
+enum-known-effect-3 : tie.Need-enum-known-effect-3
+enum-known-effect-3 c = search needs
+
+-- src/step.rt:89:65
+store-requires : tie.Need-store-requires
+store-requires c κs = search needs
+
+-- src/step.rt:89:45
+after-store-requires : tie.Need-after-store-requires
+after-store-requires c κs = search needs
+
+-- src/step.rt:90:27
+enum-known-effect-4 : tie.Need-enum-known-effect-4
+enum-known-effect-4 c = search needs
+
+-- src/step.rt:90:62
+store-quad-requires : tie.Need-store-quad-requires
+store-quad-requires c κs = search needs
+
+-- src/step.rt:90:42
+after-store-requires-2 : tie.Need-after-store-requires-2
+after-store-requires-2 c κs = search needs
+
+-- src/step.rt:91:20
+enum-known-effect-5 : tie.Need-enum-known-effect-5
+enum-known-effect-5 c = search needs
+
+-- src/step.rt:91:31
+branch-requires : tie.Need-branch-requires
+branch-requires c κs = search needs
+
+-- src/step.rt:92:25
+enum-told : tie.Need-enum-told
+enum-told c = search needs
+
+-- src/step.rt:92:25
+go-on-requires-3 : tie.Need-go-on-requires-3
+go-on-requires-3 c κs = search needs
+
+-- src/step.rt:93:24
+enum-told-2 : tie.Need-enum-told-2
+enum-told-2 c = search needs
+
+-- src/step.rt:93:24
+end-requires : tie.Need-end-requires
+end-requires c κs = search needs
+
+-- src/step.rt:94:22
+enum-known-effect-6 : tie.Need-enum-known-effect-6
+enum-known-effect-6 c = search needs
+
+-- src/step.rt:94:30
+stop-requires : tie.Need-stop-requires
+stop-requires c κs = search needs
+
+-- src/step.rt:82:1
+returns : tie.Need-returns
+returns c = ?
+
+-- src/step.rt:82:1
+returns-2 : tie.Need-returns-2
+returns-2 c = ?
+
+-- src/step.rt:82:1
+same-length : tie.Need-same-length
+same-length c = search needs
+
+-- src/step.rt:82:1
+returns-3 : tie.Need-returns-3
+returns-3 c = ?
+
+-- src/step.rt:82:1
+same-length-2 : tie.Need-same-length-2
+same-length-2 c = search needs
+
+-- src/step.rt:82:1
+returns-4 : tie.Need-returns-4
+returns-4 c = ?
+
+-- src/step.rt:82:1
+returns-5 : tie.Need-returns-5
+returns-5 c = ?
+
+-- src/step.rt:82:1
+returns-6 : tie.Need-returns-6
+returns-6 c = ?
+
+-- src/step.rt:82:1
+returns-7 : tie.Need-returns-7
+returns-7 c = ?
+
+-- src/step.rt:82:1
+returns-8 : tie.Need-returns-8
+returns-8 c = ?
+
+pub apply-spec : {M : Type 1} → statement M
+apply-spec =
+    tie.close
+    (tie.spec
+    enum-known-effect
+    write-requires
+    go-on-requires
+    enum-known-effect-2
+    write-vector-requires
+    go-on-requires-2
+    enum-known-effect-3
+    store-requires
+    after-store-requires
+    enum-known-effect-4
+    store-quad-requires
+    after-store-requires-2
+    enum-known-effect-5
+    branch-requires
+    enum-told
+    go-on-requires-3
+    enum-told-2
+    end-requires
+    enum-known-effect-6
+    stop-requires
+    returns
+    returns-2
+    same-length
+    returns-3
+    same-length-2
+    returns-4
+    returns-5
+    returns-6
+    returns-7
+    returns-8)

@@ -1,0 +1,37 @@
+use borrow.Author.Needs.{needs}
+use Rattle.kernel.proofs.step.execute.Statement.{statement}
+use Rattle.kernel.proofs.step.execute.Tie as tie
+use Rattle.kernel.proofs.step.execute.Reads as reads
+use Rattle.kernel.proofs.step.execute.Lts as lts
+use Rattle.instruction.proofs.effect.effect_of.Reads as effect-of-reads
+use Rattle.kernel.proofs.step.apply.Reads as apply-reads
+use Rattle.kernel.proofs.thread.Thread.read.Reads as read-reads
+
+-- src/step.rt:102:9
+read-requires : tie.Need-read-requires
+read-requires c κs = search needs
+
+-- src/step.rt:103:9
+read-requires-2 : tie.Need-read-requires-2
+read-requires-2 c κs = search needs
+
+-- src/step.rt:107:9
+effect-of-requires : tie.Need-effect-of-requires
+effect-of-requires c κs = search needs
+
+-- src/step.rt:108:5
+apply-requires : tie.Need-apply-requires
+apply-requires c κs = search needs
+
+-- src/step.rt:98:1
+same-length : tie.Need-same-length
+same-length c = search needs
+
+-- src/step.rt:98:1
+returns : tie.Need-returns
+returns c = ?
+
+pub execute-spec : {M : Type 1} → statement M
+execute-spec =
+    tie.close
+    (tie.spec read-requires read-requires-2 effect-of-requires apply-requires same-length returns)

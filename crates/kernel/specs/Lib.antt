@@ -1,0 +1,4 @@
+pub mod Pack
+pub mod Registers
+pub mod Thread
+pub mod Step

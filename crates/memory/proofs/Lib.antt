@@ -1,0 +1,3 @@
+pub mod After
+pub mod Reach
+pub mod Places

@@ -1,0 +1,66 @@
+-- `memory::access::put_value` meets its contract. Assumes nothing.
+use Rattle.memory.specs.Access.{bytesOf, withValue}
+use native.Mathlib.Omega.{arith}
+use mathlib.Core.Path.{ap}
+use borrow.Author.Needs.{needs}
+use Rattle.memory.proofs.access.put_value.Statement.{statement}
+use Rattle.memory.proofs.access.put_value.Tie as tie
+
+enum-told : tie.Need-enum-told
+enum-told c = search needs
+
+put-byte-requires : tie.Need-put-byte-requires
+unfolding bytesOf
+put-byte-requires c κs = omega (arith, ap bytesOf (c .before .enum-told .given .1))
+
+enum-told-2 : tie.Need-enum-told-2
+enum-told-2 c = search needs
+
+put-half-requires : tie.Need-put-half-requires
+unfolding bytesOf
+put-half-requires c κs = omega (arith, ap bytesOf (c .before .enum-told2 .given .1))
+
+enum-told-3 : tie.Need-enum-told-3
+enum-told-3 c = search needs
+
+put-word-requires : tie.Need-put-word-requires
+unfolding bytesOf
+put-word-requires c κs = omega (arith, ap bytesOf (c .before .enum-told3 .given .1))
+
+same-length : tie.Need-same-length
+same-length c = search needs
+
+returns : tie.Need-returns
+unfolding withValue
+returns c = rw (c .before .before .before .before .enum-told .given .1) (c .before .before .put-byte .ensures)
+
+same-length-2 : tie.Need-same-length-2
+same-length-2 c = search needs
+
+returns-2 : tie.Need-returns-2
+unfolding withValue
+returns-2 c = rw (c .before .before .before .before .enum-told2 .given .1) (c .before .before .put-half .ensures)
+
+same-length-3 : tie.Need-same-length-3
+same-length-3 c = search needs
+
+returns-3 : tie.Need-returns-3
+unfolding withValue
+returns-3 c = rw (c .before .before .before .before .enum-told3 .given .1) (c .before .before .put-word .ensures)
+
+pub put-value-spec : {M : Type 1} → statement M
+put-value-spec =
+    tie.close
+    (tie.spec
+    enum-told
+    put-byte-requires
+    enum-told-2
+    put-half-requires
+    enum-told-3
+    put-word-requires
+    same-length
+    returns
+    same-length-2
+    returns-2
+    same-length-3
+    returns-3)

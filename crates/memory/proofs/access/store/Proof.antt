@@ -1,0 +1,59 @@
+-- `memory::access::store` meets its contract. Assumes nothing.
+use Rattle.memory.proofs.Reach.{inside-reach}
+use Rattle.memory.specs.Access.{bytesOf, storeOf}
+use Rattle.memory.specs.Address.{reachOf, ifInside}
+use Rattle.memory.specs.declared.address.Reach.the-variants.{Inside, Outside}
+use denote.Ref.{now}
+use lib.ListN.{length}
+use mathlib.Core.Path.{_≡_, sym}
+use borrow.Author.Needs.{needs}
+use Rattle.memory.proofs.access.store.Statement.{statement}
+use Rattle.memory.proofs.access.store.Tie as tie
+
+inside : (c : tie.After-enum-told) → let a = c .before .before .before .before .before .args in
+    reachOf (length (now (a .window))) (a .address) (bytesOf (a .width)) ≡ Inside
+inside c = cc
+
+bytes-of-requires : tie.Need-bytes-of-requires
+bytes-of-requires c κs = search needs
+
+test-requires : tie.Need-test-requires
+test-requires c κs = search needs
+
+enum-told : tie.Need-enum-told
+enum-told c = search needs
+
+put-value-requires : tie.Need-put-value-requires
+put-value-requires c κs = inside-reach _ _ _ (inside (c .before))
+
+enum-told-2 : tie.Need-enum-told-2
+enum-told-2 c = search needs
+
+same-length : tie.Need-same-length
+same-length c = search needs
+
+returns : tie.Need-returns
+unfolding storeOf ifInside
+returns c =
+    let within = inside (c .before .before .before .before) in
+    (sym within, rw within (c .before .before .put-value .ensures))
+
+returns-2 : tie.Need-returns-2
+unfolding storeOf ifInside
+returns-2 c =
+    let a = c .before .before .before .before .before .args in
+    let out : reachOf (length (now (a .window))) (a .address) (bytesOf (a .width)) ≡ Outside = cc in
+    (sym out, rw out)
+
+pub store-spec : {M : Type 1} → statement M
+store-spec =
+    tie.close
+    (tie.spec
+    bytes-of-requires
+    test-requires
+    enum-told
+    put-value-requires
+    enum-told-2
+    same-length
+    returns
+    returns-2)

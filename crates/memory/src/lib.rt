@@ -1,0 +1,6 @@
+// Everything that touches a lent window of bytes. Addresses count from its start.
+pub mod access;
+pub mod address;
+pub mod place;
+pub mod quad;
+pub mod peek;
