@@ -1,10 +1,11 @@
 -- The laws of lanes, over the width k and the number n of the lanes.
 -- Assumes nothing.
-use mathlib.Core.Path.{_≡_, sym, ap, ap₂, _∙_, subst⁻¹}
+use mathlib.Core.Path.{_≡_, refl, sym, ap, ap₂, _∙_, subst⁻¹}
 use mathlib.Core.Logic.{_⊎_, inl, inr}
 use Prim.Native.Nat.{ℕ, zero, suc, _+_, _*_, _/_, _%_, _^_, _<_}
 use native.Mathlib.Nat.{add-comm, mul-add, mul-zero, mul-suc, mod-one, mod-lt, mod-eq-of-lt, mul-add-mod-self-right, le-dest, eq-or-lt-of-le, le-of-suc-le-suc, suc-inj, not-suc-le-zero, lt-trans, lt-suc-self}
 use lib.Arith.{digits-lt}
+use lib.Bits.{bitXor, bitAnd, bitOr, xor-block, and-block, or-block}
 use lib.Pow.{pow-pos, pow-add, high, field, mod-pow-add, mod-mod-pow}
 use Rattle.words.specs.Lanes.{lane, lanewise}
 
@@ -20,13 +21,14 @@ pub one-lane-more : (k n w : ℕ) → w % 2 ^ (k * suc n) ≡ lane k n w * 2 ^ (
 one-lane-more k n w = ap (λ (x : ℕ). w % 2 ^ x) (sym (next k n)) ∙ mod-pow-add w k (k * n)
 
 -- the lanes below n are those of the low n lanes
+apart : (k i d : ℕ) → k * (suc i + d) ≡ k * d + (k + k * i)
+apart k i d = mul-add k (suc i) d ∙ add-comm (k * suc i) (k * d) ∙ ap (λ (x : ℕ). k * d + x) (sym (next k i))
+
 pub lane-of-low : (k n i w : ℕ) → i < n → lane k i (w % 2 ^ (k * n)) ≡ lane k i w
 lane-of-low k n i w h =
     let d = le-dest h in
-    let whole : k * n ≡ k * d .0 + (k + k * i) =
-    ap (λ (x : ℕ). k * x) (sym (d .1)) ∙ mul-add k (suc i) (d .0) ∙ add-comm (k * suc i) (k * d .0) ∙ ap (λ (x : ℕ). k * d .0 + x) (sym (next k i)) in
     sym (field (w % 2 ^ (k * n)) k (k * i))
-    ∙ ap (λ (x : ℕ). w % 2 ^ x % 2 ^ (k + k * i) / 2 ^ (k * i)) whole
+    ∙ ap (λ (x : ℕ). w % 2 ^ x % 2 ^ (k + k * i) / 2 ^ (k * i)) (ap (λ (x : ℕ). k * x) (sym (d .1)) ∙ apart k i (d .0))
     ∙ ap (λ (x : ℕ). x / 2 ^ (k * i)) (mod-mod-pow w (k * d .0) (k + k * i))
     ∙ field w k (k * i)
 
@@ -73,9 +75,9 @@ module _ (f : ℕ → ℕ → ℕ) (k : ℕ) (fits : (x y : ℕ) → x < 2 ^ k �
           lane-kept k n i (f (lane k n a) (lane k n b)) (lanewise f k n a b) (le-of-suc-le-suc l) ∙ below (le-of-suc-le-suc l)
 
   -- so no lane of the result depends on another lane: words that agree in lane i give results that agree in lane i
-  pub lanes-apart : (n a b a′ b′ i : ℕ) → i < n → lane k i a ≡ lane k i a′ → lane k i b ≡ lane k i b′
+  pub lanewise-apart : (n a b a′ b′ i : ℕ) → i < n → lane k i a ≡ lane k i a′ → lane k i b ≡ lane k i b′
       → lane k i (lanewise f k n a b) ≡ lane k i (lanewise f k n a′ b′)
-  lanes-apart n a b a′ b′ i h p q = lanewise-lane n a b i h ∙ ap₂ f p q ∙ sym (lanewise-lane n a′ b′ i h)
+  lanewise-apart n a b a′ b′ i h p q = lanewise-lane n a b i h ∙ ap₂ f p q ∙ sym (lanewise-lane n a′ b′ i h)
 
   -- and a number of n lanes with those lanes is the result
   pub lanewise-only : (n a b r : ℕ) → r < 2 ^ (k * n) → ((i : ℕ) → i < n → lane k i r ≡ f (lane k i a) (lane k i b)) → r ≡ lanewise f k n a b
@@ -86,10 +88,19 @@ module _ (f : ℕ → ℕ → ℕ) (k : ℕ) (fits : (x y : ℕ) → x < 2 ^ k �
 -- an operation that works on each run of bits apart works on the whole word at once, whatever the lanes' width
 module _ (op : ℕ → ℕ → ℕ) (none : op 0 0 ≡ 0)
     (block : (k a b r s : ℕ) → r < 2 ^ k → s < 2 ^ k → op (a * 2 ^ k + r) (b * 2 ^ k + s) ≡ op a b * 2 ^ k + op r s) where
-  pub lanewise-whole : (k n a b : ℕ) → lanewise op k n a b ≡ op (a % 2 ^ (k * n)) (b % 2 ^ (k * n))
+  lanewise-whole : (k n a b : ℕ) → lanewise op k n a b ≡ op (a % 2 ^ (k * n)) (b % 2 ^ (k * n))
   unfolding lanewise
   lanewise-whole k zero a b = simp (mul-zero, mod-one) (sym none)
   lanewise-whole k (suc n) a b =
       ap (λ (x : ℕ). op (lane k n a) (lane k n b) * 2 ^ (k * n) + x) (lanewise-whole k n a b)
       ∙ sym (block (k * n) (lane k n a) (lane k n b) (a % 2 ^ (k * n)) (b % 2 ^ (k * n)) (mod-lt a (pow-pos (k * n))) (mod-lt b (pow-pos (k * n))))
       ∙ ap₂ op (sym (one-lane-more k n a)) (sym (one-lane-more k n b))
+
+pub lanewise-xor : (k n a b : ℕ) → lanewise bitXor k n a b ≡ bitXor (a % 2 ^ (k * n)) (b % 2 ^ (k * n))
+lanewise-xor = lanewise-whole bitXor refl xor-block
+
+pub lanewise-and : (k n a b : ℕ) → lanewise bitAnd k n a b ≡ bitAnd (a % 2 ^ (k * n)) (b % 2 ^ (k * n))
+lanewise-and = lanewise-whole bitAnd refl and-block
+
+pub lanewise-or : (k n a b : ℕ) → lanewise bitOr k n a b ≡ bitOr (a % 2 ^ (k * n)) (b % 2 ^ (k * n))
+lanewise-or = lanewise-whole bitOr refl or-block

@@ -1,11 +1,10 @@
 -- The laws of an operation on a word of lanes, by the lanes' type.
 -- Assumes nothing.
 use mathlib.Core.Path.{_≡_, refl, ap, ap₂, _∙_, subst}
-use Prim.Native.Nat.{ℕ, _+_, _-_, _*_, _%_, _^_, _<_}
-use native.Mathlib.Nat.{mod-lt, mod-eq-of-lt, div-one}
+use Prim.Native.Nat.{ℕ, _*_, _%_, _^_, _<_}
+use native.Mathlib.Nat.{mod-eq-of-lt, div-one}
 use native.Mathlib.Omega.{arith}
-use lib.Pow.{pow-pos}
-use lib.Bits.{bitXor, bitAnd, bitOr, xor-lt, and-lt, or-lt, xor-block, and-block, or-block}
+use lib.Bits.{bitXor, bitAnd, bitOr, xor-lt, and-lt, or-lt}
 use Rattle.words.specs.Bytes.{wordOf, byteOf}
 use Rattle.words.specs.Halves.{wordOfHalves, halfAt}
 use Rattle.words.specs.Lanes.{lane, lanewise, laneBits, laneCount, laneOf, lanesOf}
@@ -13,7 +12,8 @@ use Rattle.words.specs.declared.lanes.LaneOp.{LaneOp}
 use Rattle.words.specs.declared.lanes.LaneOp.the-variants.{Add, Sub, Xor, And, Or, Mul}
 use Rattle.words.specs.declared.lanes.LaneType.{LaneType}
 use Rattle.words.specs.declared.lanes.LaneType.the-variants.{I32, I16, I8}
-use Rattle.words.proofs.LaneLaws.{lanewise-below, lanewise-lane, lanes-apart, lanewise-whole}
+use Rattle.words.proofs.LaneLaws.{lanewise-below, lanewise-lane, lanewise-apart, lanewise-only, lanewise-xor, lanewise-and, lanewise-or}
+use Rattle.words.proofs.WordLaws.{sum-below, difference-below, product-below}
 
 -- the lanes fill the word
 pub lanes-fill : (ty : LaneType) → laneBits ty * laneCount ty ≡ 32
@@ -23,12 +23,12 @@ lanes-fill I8 = refl
 
 -- the result of two lanes is a lane
 pub laneOf-below : (op : LaneOp) (ty : LaneType) (x y : ℕ) → x < 2 ^ laneBits ty → y < 2 ^ laneBits ty → laneOf op ty x y < 2 ^ laneBits ty
-laneOf-below Add ty x y hx hy = mod-lt (x + y) (pow-pos (laneBits ty))
-laneOf-below Sub ty x y hx hy = mod-lt (x + (2 ^ laneBits ty - y)) (pow-pos (laneBits ty))
+laneOf-below Add ty x y hx hy = sum-below (laneBits ty) x y
+laneOf-below Sub ty x y hx hy = difference-below (laneBits ty) x y
 laneOf-below Xor ty x y hx hy = xor-lt (laneBits ty) x y hx hy
 laneOf-below And ty x y hx hy = and-lt (laneBits ty) x y hx hy
 laneOf-below Or ty x y hx hy = or-lt (laneBits ty) x y hx hy
-laneOf-below Mul ty x y hx hy = mod-lt (x * y) (pow-pos (laneBits ty))
+laneOf-below Mul ty x y hx hy = product-below (laneBits ty) x y
 
 module _ (op : LaneOp) (ty : LaneType) where
   -- the result is a word
@@ -49,29 +49,35 @@ module _ (op : LaneOp) (ty : LaneType) where
       → lane (laneBits ty) i a ≡ lane (laneBits ty) i a′ → lane (laneBits ty) i b ≡ lane (laneBits ty) i b′
       → lane (laneBits ty) i (lanesOf op ty a b) ≡ lane (laneBits ty) i (lanesOf op ty a′ b′)
   unfolding lanesOf
-  lanesOf-apart = lanes-apart (laneOf op ty) (laneBits ty) (laneOf-below op ty) (laneCount ty)
+  lanesOf-apart = lanewise-apart (laneOf op ty) (laneBits ty) (laneOf-below op ty) (laneCount ty)
+
+  -- no other word has those lanes
+  pub lanesOf-only : (a b r : ℕ) → r < 2 ^ 32
+      → ((i : ℕ) → i < laneCount ty → lane (laneBits ty) i r ≡ laneOf op ty (lane (laneBits ty) i a) (lane (laneBits ty) i b))
+      → r ≡ lanesOf op ty a b
+  unfolding lanesOf
+  lanesOf-only a b r h =
+      lanewise-only (laneOf op ty) (laneBits ty) (laneOf-below op ty) (laneCount ty) a b r (rw (lanes-fill ty) h)
 
 -- a bitwise operation is that operation on the whole word
 module _ (ty : LaneType) (a b : ℕ) (ha : a < 2 ^ 32) (hb : b < 2 ^ 32) where
-  whole : (op : ℕ → ℕ → ℕ) → op 0 0 ≡ 0
-      → ((k x y r s : ℕ) → r < 2 ^ k → s < 2 ^ k → op (x * 2 ^ k + r) (y * 2 ^ k + s) ≡ op x y * 2 ^ k + op r s)
+  whole : (op : ℕ → ℕ → ℕ)
+      → lanewise op (laneBits ty) (laneCount ty) a b ≡ op (a % 2 ^ (laneBits ty * laneCount ty)) (b % 2 ^ (laneBits ty * laneCount ty))
       → lanewise op (laneBits ty) (laneCount ty) a b ≡ op a b
-  whole op none block =
-      lanewise-whole op none block (laneBits ty) (laneCount ty) a b
-      ∙ ap (λ (x : ℕ). op (a % 2 ^ x) (b % 2 ^ x)) (lanes-fill ty)
-      ∙ ap₂ op (mod-eq-of-lt ha) (mod-eq-of-lt hb)
+  whole op e =
+      e ∙ ap (λ (x : ℕ). op (a % 2 ^ x) (b % 2 ^ x)) (lanes-fill ty) ∙ ap₂ op (mod-eq-of-lt ha) (mod-eq-of-lt hb)
 
   pub lanesOf-xor : lanesOf Xor ty a b ≡ bitXor a b
   unfolding lanesOf
-  lanesOf-xor = whole bitXor refl xor-block
+  lanesOf-xor = whole bitXor (lanewise-xor (laneBits ty) (laneCount ty) a b)
 
   pub lanesOf-and : lanesOf And ty a b ≡ bitAnd a b
   unfolding lanesOf
-  lanesOf-and = whole bitAnd refl and-block
+  lanesOf-and = whole bitAnd (lanewise-and (laneBits ty) (laneCount ty) a b)
 
   pub lanesOf-or : lanesOf Or ty a b ≡ bitOr a b
   unfolding lanesOf
-  lanesOf-or = whole bitOr refl or-block
+  lanesOf-or = whole bitOr (lanewise-or (laneBits ty) (laneCount ty) a b)
 
 -- lane by lane
 module _ (op : LaneOp) (a b : ℕ) where

@@ -1,4 +1,11 @@
 pub mod Powers
+pub mod Order
 pub mod LaneLaws
 pub mod LaneTypes
+pub mod FirstSet
 pub mod CountLaws
+pub mod SignedOrder
+pub mod SignedShift
+pub mod ByteLaws
+pub mod ArithmeticLaws
+pub mod WordLaws
