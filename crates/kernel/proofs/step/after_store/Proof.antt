@@ -1,3 +1,5 @@
+use Rattle.kernel.specs.Step.{afterStore}
+use Rattle.memory.specs.Address.{ifInside}
 use borrow.Author.Needs.{needs}
 use Rattle.kernel.proofs.step.after_store.Statement.{statement}
 use Rattle.kernel.proofs.step.after_store.Tie as tie
@@ -24,11 +26,13 @@ stop-requires c κs = search needs
 
 -- src/step.rt:72:1
 returns : tie.Need-returns
-returns c = ?
+unfolding afterStore ifInside
+returns c = rw (c .before .enum-told .given .1) (c .go-on .ensures)
 
 -- src/step.rt:72:1
 returns-2 : tie.Need-returns-2
-returns-2 c = ?
+unfolding afterStore ifInside
+returns-2 c = rw (c .before .enum-told2 .given .1) (c .stop .ensures)
 
 pub after-store-spec : {M : Type 1} → statement M
 after-store-spec =

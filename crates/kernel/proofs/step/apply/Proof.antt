@@ -1,3 +1,7 @@
+use Rattle.kernel.specs.Step.{applied}
+use Rattle.kernel.specs.Thread.{written, writtenVector}
+use mathlib.Core.Path.{refl}
+use native.Mathlib.Nat.{mod-eq-of-lt}
 use borrow.Author.Needs.{needs}
 use Rattle.kernel.proofs.step.apply.Statement.{statement}
 use Rattle.kernel.proofs.step.apply.Tie as tie
@@ -23,7 +27,8 @@ write-requires c κs = search needs
 
 -- src/step.rt:87:27
 go-on-requires : tie.Need-go-on-requires
-go-on-requires c κs = ?
+unfolding written
+go-on-requires c κs = rw (c .write .ensures) (c .before .before .before .before .before .pre .0)
 
 -- src/step.rt:88:25
 enum-known-effect-2 : tie.Need-enum-known-effect-2
@@ -35,7 +40,8 @@ write-vector-requires c κs = search needs
 
 -- src/step.rt:88:35
 go-on-requires-2 : tie.Need-go-on-requires-2
-go-on-requires-2 c κs = ?
+unfolding writtenVector
+go-on-requires-2 c κs = rw (c .write-vector .ensures) (c .before .before .before .before .before .pre .0)
 
 -- src/step.rt:89:23
 enum-known-effect-3 : tie.Need-enum-known-effect-3
@@ -95,11 +101,13 @@ stop-requires c κs = search needs
 
 -- src/step.rt:82:1
 returns : tie.Need-returns
-returns c = ?
+unfolding applied
+returns c = rw (c .before .before .before .effect .given .1) (record { answer = rw (c .go-on .ensures, c .before .write .ensures, mod-eq-of-lt (c .before .before .before .before .before .before .pre .1)); memory = refl })
 
 -- src/step.rt:82:1
 returns-2 : tie.Need-returns-2
-returns-2 c = ?
+unfolding applied
+returns-2 c = rw (c .before .before .before .effect2 .given .1) (record { answer = rw (c .go-on2 .ensures, c .before .write-vector .ensures); memory = refl })
 
 -- src/step.rt:82:1
 same-length : tie.Need-same-length
@@ -107,7 +115,8 @@ same-length c = search needs
 
 -- src/step.rt:82:1
 returns-3 : tie.Need-returns-3
-returns-3 c = ?
+unfolding applied
+returns-3 c = rw (c .before .before .before .before .before .before .effect3 .given .1) (record { answer = rw (c .after-store .ensures, c .before .before .before .store .ensures .0); memory = c .before .before .before .store .ensures .1 })
 
 -- src/step.rt:82:1
 same-length-2 : tie.Need-same-length-2
@@ -115,23 +124,28 @@ same-length-2 c = search needs
 
 -- src/step.rt:82:1
 returns-4 : tie.Need-returns-4
-returns-4 c = ?
+unfolding applied
+returns-4 c = rw (c .before .before .before .before .before .before .effect4 .given .1) (record { answer = rw (c .after-store2 .ensures, c .before .before .before .store-quad .ensures .0); memory = c .before .before .before .store-quad .ensures .1 })
 
 -- src/step.rt:82:1
 returns-5 : tie.Need-returns-5
-returns-5 c = ?
+unfolding applied
+returns-5 c = rw (c .before .before .effect5 .given .1) (record { answer = c .branch .ensures; memory = refl })
 
 -- src/step.rt:82:1
 returns-6 : tie.Need-returns-6
-returns-6 c = ?
+unfolding applied
+returns-6 c = rw (c .before .enum-told .given .1) (record { answer = c .go-on3 .ensures; memory = refl })
 
 -- src/step.rt:82:1
 returns-7 : tie.Need-returns-7
-returns-7 c = ?
+unfolding applied
+returns-7 c = rw (c .before .enum-told2 .given .1) (record { answer = c .end .ensures; memory = refl })
 
 -- src/step.rt:82:1
 returns-8 : tie.Need-returns-8
-returns-8 c = ?
+unfolding applied
+returns-8 c = rw (c .before .before .effect6 .given .1) (record { answer = c .stop .ensures; memory = refl })
 
 pub apply-spec : {M : Type 1} → statement M
 apply-spec =

@@ -1,3 +1,4 @@
+use Rattle.kernel.specs.Step.{branched, lands}
 use borrow.Author.Needs.{needs}
 use Rattle.kernel.proofs.step.branch.Statement.{statement}
 use Rattle.kernel.proofs.step.branch.Tie as tie
@@ -30,11 +31,13 @@ stop-requires c κs = search needs
 
 -- src/step.rt:57:1
 returns : tie.Need-returns
-returns c = ?
+unfolding branched lands
+returns c = rw (← c .before .before .before .add .ensures, ← c .before .before .both .ensures, c .before .if1 .taken) (cc)
 
 -- src/step.rt:57:1
 returns-2 : tie.Need-returns-2
-returns-2 c = ?
+unfolding branched lands
+returns-2 c = rw (← c .before .before .before .add .ensures, ← c .before .before .both .ensures, c .before .if1 .left) (c .stop .ensures)
 
 pub branch-spec : {M : Type 1} → statement M
 branch-spec =

@@ -1,3 +1,9 @@
+use Rattle.kernel.specs.Step.{executed}
+use Rattle.kernel.specs.Registers.{scalarOf}
+use mathlib.Core.Path.{_≡_}
+use denote.Ref.{now}
+use native.Mathlib.Nat.{mod-eq-of-lt}
+use Rattle.instruction.specs.Effect.{effectOf}
 use borrow.Author.Needs.{needs}
 use Rattle.kernel.proofs.step.execute.Statement.{statement}
 use Rattle.kernel.proofs.step.execute.Tie as tie
@@ -29,7 +35,14 @@ same-length c = search needs
 
 -- src/step.rt:98:1
 returns : tie.Need-returns
-returns c = ?
+unfolding executed
+returns c = 
+    let s = c .before .before .before .before .before .before .before .before .before .before .before .before in
+    let i = s .args .instr in
+    let file = s .args .thread .registers in
+    let same : c .before .before .before .before .effect-of .result ≡ effectOf (i .op) (scalarOf file (i .rs1)) (scalarOf file (i .rs2)) (file .vectors) (now (s .args .window)) =
+        cc (mod-eq-of-lt (s .pre .2), mod-eq-of-lt (s .pre .3)) in
+    rw (← same) (c .before .before .apply .ensures)
 
 pub execute-spec : {M : Type 1} → statement M
 execute-spec =

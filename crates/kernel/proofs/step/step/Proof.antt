@@ -1,3 +1,10 @@
+use Rattle.kernel.specs.Step.{stepOf}
+use borrow.Author.Tests.{le-leb, lt-leb}
+use mathlib.Core.Path.{refl}
+use native.Mathlib.Nat.{mod-lt}
+use native.Mathlib.Omega.{arith}
+use lib.Dec.{lit<}
+use Rattle.instruction.specs.Decode.{decoded}
 use borrow.Author.Needs.{needs}
 use Rattle.kernel.proofs.step.step.Statement.{statement}
 use Rattle.kernel.proofs.step.step.Tie as tie
@@ -14,7 +21,8 @@ stop-requires c κs = search needs
 
 -- src/step.rt:116:9
 returns : tie.Need-returns
-returns c = ?
+unfolding stepOf
+returns c = rw (le-leb _ _ (c .before .if1 .taken)) (record { answer = c .stop .ensures; memory = refl })
 
 -- src/step.rt:118:17
 cast-place : tie.Need-cast-place
@@ -26,7 +34,8 @@ stop-requires-2 c κs = search needs
 
 -- src/step.rt:120:9
 returns-2 : tie.Need-returns-2
-returns-2 c = ?
+unfolding stepOf
+returns-2 c = simp (lt-leb _ _ (c .before .before .before .before .if1 .left), le-leb _ _ (c .before .if2 .taken)) (record { answer = c .stop2 .ensures; memory = refl })
 
 -- src/step.rt:122:40
 add-peek-word : tie.Need-add-peek-word
@@ -42,7 +51,8 @@ decode-requires c κs = search needs
 
 -- src/step.rt:123:5
 execute-requires : tie.Need-execute-requires
-execute-requires c κs = ?
+unfolding decoded
+execute-requires c κs = (omega arith, rw (c .before .decode .ensures) (mod-lt _ (lit< tt)), rw (c .before .decode .ensures) (mod-lt _ (lit< tt)), rw (c .before .decode .ensures) (mod-lt _ (lit< tt)))
 
 -- src/step.rt:111:1
 same-length : tie.Need-same-length
@@ -50,7 +60,8 @@ same-length c = search needs
 
 -- src/step.rt:111:1
 returns-3 : tie.Need-returns-3
-returns-3 c = ?
+unfolding stepOf
+returns-3 c = simp (lt-leb _ _ (c .before .before .before .before .before .before .before .before .before .before .if1 .left), lt-leb _ _ (c .before .before .before .before .before .before .before .if2 .left), ← c .before .before .before .before .before .peek-word .ensures, ← c .before .before .before .before .decode .ensures) (c .before .before .execute .ensures)
 
 pub step-spec : {M : Type 1} → statement M
 step-spec =
