@@ -53,70 +53,68 @@ module _ (limit : ℕ) (pack : List ℕ) (kernel : Kernel) where
   more-took n Ended t window h = h
   more-took n (Stopped why) t window h = (h .0, λ e. omega (arith, h .1 e))
 
-  module _ (t : Thread) (window : List ℕ) (fresh : t .steps ≡ 0) where
-    steps-took : (n : ℕ) → TookState limit n (stepsOf n limit pack kernel t window)
-    unfolding stepsOf after running
-    steps-took zero = (fresh, omega arith)
-    steps-took (suc n) =
-        more-took n _ _ _ (steps-took n)
+  module _ (t : Thread) (window : List ℕ) where
+    -- the state after n steps, and that at the run's end
+    abbrev state : ℕ → State
+    state n = stepsOf n limit pack kernel t window
 
-    -- a thread that is running after n steps took n
-    pub running-took : (n : ℕ) → stepsOf n limit pack kernel t window .stepped .progress ≡ Running
-        → stepsOf n limit pack kernel t window .stepped .thread .steps ≡ n
-    running-took n e = (rw e at (steps-took n)) .0
-
-    -- no thread is running at the end of its run
-    pub run-not-running : runOf limit pack kernel t window .stepped .progress ≡ Running → ⊥
-    unfolding runOf
-    run-not-running e = omega (arith, (rw e at (steps-took (limit + 1))) .1)
-
-    -- no thread is stopped with 14 within the limit's steps
-    pub not-before-the-limit : (n : ℕ) → n ≤ limit → stepsOf n limit pack kernel t window .stepped .progress ≡ Stopped OutOfSteps → ⊥
-    not-before-the-limit n h e = omega (arith, (rw e at (steps-took n)) .1 refl)
-
-    -- a thread still running after the limit's steps is stopped with 14, and all is as those steps left it
-    pub running-at-the-limit : stepsOf limit limit pack kernel t window .stepped .progress ≡ Running
-        → runOf limit pack kernel t window
-        ≡ record {
-          stepped = stops OutOfSteps (stepsOf limit limit pack kernel t window .stepped .thread);
-          window = stepsOf limit limit pack kernel t window .window;
-        }
-    running-at-the-limit e =
-        run-last-step limit pack kernel t window
-        ∙ more-running limit pack kernel (stepsOf limit limit pack kernel t window) e
-        ∙ at-the-limit limit pack kernel _ _ (omega (arith, running-took limit e))
-
-    -- a run gives 14 exactly if the thread is still running after the limit's steps
-    pub out-of-steps : (runOf limit pack kernel t window .stepped .progress ≡ Stopped OutOfSteps)
-        ↔ (stepsOf limit limit pack kernel t window .stepped .progress ≡ Running)
-    unfolding stops
-    out-of-steps = (there (stepsOf limit limit pack kernel t window .stepped .progress) refl, λ e. rw (running-at-the-limit e))
-      where
-        there : (p : Progress) → stepsOf limit limit pack kernel t window .stepped .progress ≡ p
-            → runOf limit pack kernel t window .stepped .progress ≡ Stopped OutOfSteps
-            → stepsOf limit limit pack kernel t window .stepped .progress ≡ Running
-        there Running now e = now
-        there Ended now e =
-            let same = run-rests limit pack kernel t window limit (omega arith) (ended-rests now) in
-            cc
-        there (Stopped why) now e =
-            let same = run-rests limit pack kernel t window limit (omega arith) (stopped-rests now) in
-            absurd (not-before-the-limit limit (omega arith) (cc))
+    abbrev end : State
+    end = runOf limit pack kernel t window
 
     -- a thread that ends within the limit's steps, the last of them too, ends so
-    pub ended-run : (n : ℕ) → n ≤ limit → stepsOf n limit pack kernel t window .stepped .progress ≡ Ended
-        → runOf limit pack kernel t window ≡ stepsOf n limit pack kernel t window
+    pub ended-run : (n : ℕ) → n ≤ limit → state n .stepped .progress ≡ Ended → end ≡ state n
     ended-run n h e = run-rests limit pack kernel t window n (omega arith) (ended-rests e)
 
-    -- a WFI that is step number limit ends the thread, and 14 is not given
-    pub wfi-at-the-limit : (n : ℕ) (t′ : Thread) (window′ : List ℕ) → n + 1 ≡ limit
-        → stepsOf n limit pack kernel t window ≡ running t′ window′
-        → t′ .place < kernel .length → opOf (wordAt pack (kernel .start + t′ .place)) ≡ Wfi
-        → runOf limit pack kernel t window ≡ record { stepped = ends t′; window = window′ }
-    unfolding running executed decoded effectOf applied ends
-    wfi-at-the-limit n t′ window′ h e on wfi =
-        let took : t′ .steps ≡ n = rw e at (running-took n (rw e)) in
-        let here = one-step-more limit pack kernel t window n t′ window′ e in
-        let ended = instruction-done limit pack kernel t′ window′ (omega arith) on in
-        let done : stepsOf (n + 1) limit pack kernel t window ≡ record { stepped = ends t′; window = window′ } = here ∙ ended ∙ (rw wfi) in
-        ended-run (n + 1) (omega arith) (rw done) ∙ done
+    module _ (fresh : t .steps ≡ 0) where
+      state-took : (n : ℕ) → TookState limit n (state n)
+      unfolding stepsOf after running
+      state-took zero = (fresh, omega arith)
+      state-took (suc n) = more-took n _ _ _ (state-took n)
+
+      -- a thread that is running after n steps took n
+      pub running-took : (n : ℕ) → state n .stepped .progress ≡ Running → state n .stepped .thread .steps ≡ n
+      running-took n e = (rw e at (state-took n)) .0
+
+      -- no thread is running at the end of its run
+      pub run-not-running : end .stepped .progress ≡ Running → ⊥
+      unfolding runOf
+      run-not-running e = omega (arith, (rw e at (state-took (limit + 1))) .1)
+
+      -- no thread is stopped with 14 within the limit's steps
+      pub not-before-the-limit : (n : ℕ) → n ≤ limit → state n .stepped .progress ≡ Stopped OutOfSteps → ⊥
+      not-before-the-limit n h e = omega (arith, (rw e at (state-took n)) .1 refl)
+
+      -- a thread still running after the limit's steps is stopped with 14, and all is as those steps left it
+      pub running-at-the-limit : state limit .stepped .progress ≡ Running
+          → end ≡ record { stepped = stops OutOfSteps (state limit .stepped .thread); window = state limit .window }
+      running-at-the-limit e =
+          run-last-step limit pack kernel t window
+          ∙ more-running limit pack kernel (state limit) e
+          ∙ at-the-limit limit pack kernel _ _ (omega (arith, running-took limit e))
+
+      -- a run gives 14 exactly if the thread is still running after the limit's steps
+      pub out-of-steps : (end .stepped .progress ≡ Stopped OutOfSteps) ↔ (state limit .stepped .progress ≡ Running)
+      unfolding stops
+      out-of-steps = (there (state limit .stepped .progress) refl, λ e. rw (running-at-the-limit e))
+        where
+          there : (p : Progress) → state limit .stepped .progress ≡ p → end .stepped .progress ≡ Stopped OutOfSteps
+              → state limit .stepped .progress ≡ Running
+          there Running now e = now
+          there Ended now e =
+              let same = ended-run limit (omega arith) now in
+              cc
+          there (Stopped why) now e =
+              let same = run-rests limit pack kernel t window limit (omega arith) (stopped-rests now) in
+              absurd (not-before-the-limit limit (omega arith) (cc))
+
+      -- a WFI that is step number limit ends the thread, and 14 is not given
+      pub wfi-at-the-limit : (n : ℕ) (t′ : Thread) (window′ : List ℕ) → n + 1 ≡ limit → state n ≡ running t′ window′
+          → t′ .place < kernel .length → opOf (wordAt pack (kernel .start + t′ .place)) ≡ Wfi
+          → end ≡ record { stepped = ends t′; window = window′ }
+      unfolding running executed decoded effectOf applied ends
+      wfi-at-the-limit n t′ window′ h e on wfi =
+          let took : t′ .steps ≡ n = rw e at (running-took n (rw e)) in
+          let here = one-step-more limit pack kernel t window n t′ window′ e in
+          let wfi-done = instruction-done limit pack kernel t′ window′ (omega arith) on in
+          let done : state (n + 1) ≡ record { stepped = ends t′; window = window′ } = here ∙ wfi-done ∙ (rw wfi) in
+          ended-run (n + 1) (omega arith) (rw done) ∙ done
