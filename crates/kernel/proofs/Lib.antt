@@ -5,3 +5,9 @@ pub mod Packs
 pub mod Steps
 pub mod StepByStep
 pub mod StepLimit
+pub mod Stopping
+pub mod Windows
+pub mod Nested
+pub mod Threads
+pub mod KernelWords
+pub mod Examples
