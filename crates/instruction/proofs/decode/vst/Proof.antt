@@ -1,0 +1,43 @@
+-- `instruction::decode::vst` meets its contract. Assumes nothing.
+use Rattle.instruction.specs.Decode.{vstOf}
+use borrow.Author.Needs.{needs}
+use Rattle.instruction.proofs.decode.vst.Statement.{statement}
+use Rattle.instruction.proofs.decode.vst.Tie as tie
+
+funct3-requires : tie.Need-funct3-requires
+funct3-requires c κs = search needs
+
+rs2-requires : tie.Need-rs2-requires
+rs2-requires c κs = search needs
+
+vst-row-requires : tie.Need-vst-row-requires
+vst-row-requires c κs = search needs
+
+funct7-requires : tie.Need-funct7-requires
+funct7-requires c κs = search needs
+
+rd-requires : tie.Need-rd-requires
+rd-requires c κs = search needs
+
+if-unused-requires : tie.Need-if-unused-requires
+if-unused-requires c κs = search needs
+
+if-unused-requires-2 : tie.Need-if-unused-requires-2
+if-unused-requires-2 c κs = search needs
+
+returns : tie.Need-returns
+unfolding vstOf
+returns c = cc
+
+pub vst-spec : {M : Type 1} → statement M
+vst-spec =
+    tie.close
+    (tie.spec
+    funct3-requires
+    rs2-requires
+    vst-row-requires
+    funct7-requires
+    rd-requires
+    if-unused-requires
+    if-unused-requires-2
+    returns)

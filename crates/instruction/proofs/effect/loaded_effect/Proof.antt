@@ -1,0 +1,22 @@
+-- `instruction::effect::loaded_effect` meets its contract. Assumes nothing.
+use Rattle.instruction.specs.Effect.{loadedEffect}
+use borrow.Author.Needs.{needs}
+use Rattle.instruction.proofs.effect.loaded_effect.Statement.{statement}
+use Rattle.instruction.proofs.effect.loaded_effect.Tie as tie
+
+enum-known-loaded : tie.Need-enum-known-loaded
+enum-known-loaded c = search needs
+
+enum-told : tie.Need-enum-told
+enum-told c = search needs
+
+returns : tie.Need-returns
+unfolding loadedEffect
+returns c = rw (c .before .loaded .given .1)
+
+returns-2 : tie.Need-returns-2
+unfolding loadedEffect
+returns-2 c = rw (c .enum-told .given .1)
+
+pub loaded-effect-spec : {M : Type 1} → statement M
+loaded-effect-spec = tie.close (tie.spec enum-known-loaded enum-told returns returns-2)

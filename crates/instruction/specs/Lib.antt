@@ -1,0 +1,5 @@
+pub mod Rows
+pub mod Decode
+pub mod Meaning
+pub mod Vectors
+pub mod Effect

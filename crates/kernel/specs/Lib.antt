@@ -1,0 +1,6 @@
+pub mod Pack
+pub mod Registers
+pub mod Thread
+pub mod Step
+pub mod Run
+pub mod Dispatch

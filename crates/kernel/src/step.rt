@@ -1,0 +1,126 @@
+// One step of a thread.
+ghost use mathlib.Core.Path.{_≡_};
+ghost use Prim.Native.Nat.{_+_, _^_, _<_};
+ghost use Rattle.kernel.specs.Step.{Shows, stops, goesOn, ends, branched, afterStore, applied, executed, stepOf};
+use crate::pack::Kernel;
+use crate::thread::Thread;
+use instruction::decode::decode;
+use instruction::effect::Effect;
+use instruction::effect::Stop;
+use instruction::effect::effect_of;
+use instruction::list::Instr;
+use memory::access::store;
+use memory::address::Reach;
+use memory::peek::peek_word;
+use memory::quad::store_quad;
+use words::arithmetic::add;
+use words::choice::both;
+
+pub enum Progress {
+    Running,
+    Ended,
+    Stopped(Stop),
+}
+
+pub struct Stepped {
+    pub thread: Thread,
+    pub progress: Progress,
+}
+
+fn stop(thread: Thread, why: Stop) -> Stepped
+    ensures { λ r. ⌜ r ≡ stops why thread ⌝ }
+{
+    Stepped {
+        thread,
+        progress: Progress::Stopped(why),
+    }
+}
+
+fn go_on(thread: Thread) -> Stepped
+    requires { ⌜ thread .steps + 1 < 2 ^ 32 ⌝ }
+    ensures { λ r. ⌜ r ≡ goesOn thread ⌝ }
+{
+    Stepped {
+        thread: thread.advance(),
+        progress: Progress::Running,
+    }
+}
+
+fn end(thread: Thread) -> Stepped
+    requires { ⌜ thread .steps + 1 < 2 ^ 32 ⌝ }
+    ensures { λ r. ⌜ r ≡ ends thread ⌝ }
+{
+    Stepped {
+        thread: thread.advance(),
+        progress: Progress::Ended,
+    }
+}
+
+fn branch(thread: Thread, offset: u32, length: usize) -> Stepped
+    requires { ⌜ thread .steps + 1 < 2 ^ 32 ⌝ }
+    ensures { λ r. ⌜ r ≡ branched length offset thread ⌝ }
+{
+    let place = add(thread.place, offset);
+    if both(place % 4 == 0, (place as usize) < length) {
+        Stepped {
+            thread: thread.move_to(place),
+            progress: Progress::Running,
+        }
+    } else {
+        stop(thread, Stop::OffTheKernel)
+    }
+}
+
+fn after_store(thread: Thread, reach: Reach) -> Stepped
+    requires { ⌜ thread .steps + 1 < 2 ^ 32 ⌝ }
+    ensures { λ r. ⌜ r ≡ afterStore reach thread ⌝ }
+{
+    match reach {
+        Reach::Inside => go_on(thread),
+        Reach::Outside => stop(thread, Stop::OutsideTheWindow),
+    }
+}
+
+fn apply(thread: Thread, rd: u32, effect: Effect, length: usize, window: &mut [u8]) -> Stepped
+    requires { ⌜ (thread .steps + 1 < 2 ^ 32) × (rd < 32) ⌝ }
+    ensures { λ r. ⌜ Shows r (now (window .exit)) (applied length rd effect thread (now (window .entry))) ⌝ }
+{
+    match effect {
+        Effect::Put(x) => go_on(thread.write(rd, x)),
+        Effect::PutQuad(vd, q) => go_on(thread.write_vector(vd, q)),
+        Effect::Store(width, address, x) => after_store(thread, store(window, width, address, x)),
+        Effect::StoreQuad(address, q) => after_store(thread, store_quad(window, address, q)),
+        Effect::Go(offset) => branch(thread, offset, length),
+        Effect::Next => go_on(thread),
+        Effect::End => end(thread),
+        Effect::Stop(why) => stop(thread, why),
+    }
+}
+
+fn execute(thread: Thread, instr: Instr, length: usize, window: &mut [u8]) -> Stepped
+    requires { ⌜ (thread .steps + 1 < 2 ^ 32) × (instr .rd < 32) × (instr .rs1 < 32) × (instr .rs2 < 32) ⌝ }
+    ensures { λ r. ⌜ Shows r (now (window .exit)) (executed length instr thread (now (window .entry))) ⌝ }
+{
+    let x = thread.read(instr.rs1);
+    let y = thread.read(instr.rs2);
+    let registers = thread.registers;
+    let vectors = registers.vectors;
+    let op = instr.op;
+    let effect = effect_of(op, x, y, &vectors, window);
+    apply(thread, instr.rd, effect, length, window)
+}
+
+pub fn step(thread: Thread, pack: &[u8], kernel: Kernel, window: &mut [u8], limit: u32) -> Stepped
+    requires { ⌜ kernel .start < 2 ^ 62 ⌝ }
+    ensures { λ r. ⌜ Shows r (now (window .exit)) (stepOf limit (now (pack .entry)) kernel thread (now (window .entry))) ⌝ }
+{
+    if limit <= thread.steps {
+        return stop(thread, Stop::OutOfSteps);
+    }
+    let place = thread.place as usize;
+    if kernel.length <= place {
+        return stop(thread, Stop::OffTheKernel);
+    }
+    let instr = decode(peek_word(pack, kernel.start + place));
+    execute(thread, instr, kernel.length, window)
+}
