@@ -18,7 +18,7 @@ use Rattle.kernel.specs.Thread.{started, movedTo, advanced}
 use Rattle.kernel.specs.Step.{stops, goesOn, ends, branched, stepOf}
 use Rattle.kernel.specs.Run.{ifRunning, stepMore, running, stepsOf, runOf}
 use Rattle.kernel.specs.Dispatch.{going, threadOf, threadMore, threadsOf, dispatchOf}
-use Rattle.kernel.proofs.StepByStep.{steps-keep}
+use Rattle.kernel.proofs.StepByStep.{each-step-keeps}
 use Rattle.kernel.proofs.Steps.{at-the-limit, off-the-end, instruction-done, step-cases}
 
 -- a thread stands at a multiple of 4
@@ -40,16 +40,16 @@ module _ (limit : ℕ) (pack : List ℕ) (kernel : Kernel) where
   -- a thread that starts at a multiple of 4 always stands at one
   pub steps-aligned : (n : ℕ) (t : Thread) (window : List ℕ) → Aligned t → Aligned (stepsOf n limit pack kernel t window .stepped .thread)
   unfolding running
-  steps-aligned = steps-keep limit pack kernel (λ s. Aligned (s .stepped .thread)) step-aligned
+  steps-aligned = each-step-keeps limit pack kernel (λ s. Aligned (s .stepped .thread)) step-aligned
 
--- two kernels of the same length with the same words
+-- two kernels of the same length, with the same words
 pub record SameWords (pack₁ : List ℕ) (kernel₁ : Kernel) (pack₂ : List ℕ) (kernel₂ : Kernel) : Type 0 where
   pub length : kernel₁ .length ≡ kernel₂ .length
   pub words : (place : ℕ) → place < kernel₁ .length → place % 4 ≡ 0
       → wordAt pack₁ (kernel₁ .start + place) ≡ wordAt pack₂ (kernel₂ .start + place)
 
 module _ (limit : ℕ) (pack₁ : List ℕ) (kernel₁ : Kernel) (pack₂ : List ℕ) (kernel₂ : Kernel) (same : SameWords pack₁ kernel₁ pack₂ kernel₂) where
-  -- give the same step
+  -- the same step
   pub same-step : (t : Thread) (window : List ℕ) → Aligned t → stepOf limit pack₁ kernel₁ t window ≡ stepOf limit pack₂ kernel₂ t window
   same-step t window aligned = go (lt-or-ge (t .steps) limit) (lt-or-ge (t .place) (kernel₁ .length))
     where

@@ -35,9 +35,9 @@ module _ (limit : ℕ) (pack : List ℕ) (kernel : Kernel) where
     more-keeps Ended t window h = h
     more-keeps (Stopped why) t window h = h
 
-    pub steps-keep : (n : ℕ) (t : Thread) (window : List ℕ) → P (running t window) → P (stepsOf n limit pack kernel t window)
+    pub each-step-keeps : (n : ℕ) (t : Thread) (window : List ℕ) → P (running t window) → P (stepsOf n limit pack kernel t window)
     unfolding stepsOf
-    steps-keep n t window h =
+    each-step-keeps n t window h =
         after-keeps (λ i. stepMore limit pack kernel) P n (running t window)
         (λ i s b. more-keeps (s .stepped .progress) (s .stepped .thread) (s .window)) h
 
@@ -52,5 +52,6 @@ module _ (limit : ℕ) (pack : List ℕ) (kernel : Kernel) where
     unfolding runOf
     run-is-steps = refl
 
+    -- so its last step is taken after the limit's steps
     pub run-last-step : runOf limit pack kernel t window ≡ stepMore limit pack kernel (stepsOf limit limit pack kernel t window)
     run-last-step = run-is-steps ∙ (rw add-one (one-more limit))

@@ -1,4 +1,4 @@
--- A stop changes nothing: the thread and the window stay as the steps before it left them, and no later thread runs.
+-- A stop changes nothing: the thread and the window stay as the steps before it left them.
 -- Assumes nothing.
 use mathlib.Core.Path.{_≡_, refl, subst, _∙_}
 use mathlib.Core.List.{List}

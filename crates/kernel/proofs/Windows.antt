@@ -1,4 +1,4 @@
--- What a thread and a dispatch do to the window: stores alone. Its length stays, bytes stay bytes, and a stop changes nothing.
+-- Steps, runs and dispatches change the window by stores alone: its length stays, and bytes stay bytes.
 -- Assumes nothing.
 use mathlib.Core.Path.{_≡_, refl, _∙_}
 use mathlib.Core.List.{List}
@@ -21,7 +21,7 @@ use Rattle.kernel.specs.Step.{stepOf}
 use Rattle.kernel.specs.Run.{running, stepsOf, runOf}
 use Rattle.kernel.specs.Dispatch.{shown, ifDone, going, threadOf, threadMore, threadsOf, dispatchOf}
 use Rattle.kernel.proofs.Steps.{step-cases}
-use Rattle.kernel.proofs.StepByStep.{steps-keep as each-step-keeps}
+use Rattle.kernel.proofs.StepByStep.{each-step-keeps}
 
 -- what every store keeps
 pub record KeptByStores (P : List ℕ → Type 0) : Type 0 where
