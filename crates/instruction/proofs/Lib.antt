@@ -1,1 +1,3 @@
+pub mod Effects
 pub mod Stops
+pub mod OperandLaws

@@ -3,3 +3,4 @@ pub mod Decode
 pub mod Meaning
 pub mod Vectors
 pub mod Effect
+pub mod Operands

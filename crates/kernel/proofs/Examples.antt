@@ -45,47 +45,50 @@ use Rattle.kernel.proofs.Stopping.{stopped-run}
 use Rattle.kernel.proofs.Threads.{first-stops}
 
 -- a thread at its start, alone in its dispatch
-abbrev fresh : Thread
-fresh = started 0 0 1 1
+abbrev pub freshThread : Thread
+freshThread = started 0 0 1 1
 
 -- a thread after one instruction
-abbrev then : ℕ → Thread → Thread
-then w t = executed 4 (decoded w) t [] .stepped .thread
+unfoldable pub afterWord : ℕ → Thread → Thread
+unfolding started startRegisters executed decoded opOf immediateRow scalarRow plainRow countRow effectOf aluOf unaryOf magnitude firstSet applied goesOn advanced movedTo written withScalar scalarOf
+afterWord w t = executed 4 (decoded w) t [] .stepped .thread
 
 -- what scalar register n of a thread reads
-abbrev s : ℕ → Thread → ℕ
-s n t = scalarOf (t .registers) n
+abbrev pub scalar : ℕ → Thread → ℕ
+scalar n t = scalarOf (t .registers) n
 
 -- FFF00297 (ADDI s5, s0, -1): 4,294,967,295
-pub p4 : (opOf 0xFFF00297 ≡ AluImm Add 4294967295) × (s 5 (then 0xFFF00297 fresh) ≡ 4294967295)
-unfolding started startRegisters executed decoded opOf immediateRow effectOf aluOf applied goesOn advanced movedTo written withScalar scalarOf
+pub p4 : (opOf 0xFFF00297 ≡ AluImm Add 4294967295) × (scalar 5 (afterWord 0xFFF00297 freshThread) ≡ 4294967295)
+unfolding afterWord
 p4 = (refl, refl)
 
 -- then 0052830B (ADD s6, s5, s5): 4,294,967,294
-pub p5 : (opOf 0x0052830B ≡ Alu Add) × (s 6 (then 0x0052830B (then 0xFFF00297 fresh)) ≡ 4294967294)
-unfolding started startRegisters executed decoded opOf immediateRow scalarRow plainRow effectOf aluOf applied goesOn advanced movedTo written withScalar scalarOf
+pub p5 : (opOf 0x0052830B ≡ Alu Add) × (scalar 6 (afterWord 0x0052830B (afterWord 0xFFF00297 freshThread)) ≡ 4294967294)
+unfolding afterWord
 p5 = (refl, refl)
 
--- 0002930B is ABS, of s5 to s6: 1
-pub p6 : (opOf 0x0002930B ≡ Unary Abs) × (s 6 (then 0x0002930B (then 0xFFF00297 fresh)) ≡ 1)
-unfolding started startRegisters executed decoded opOf immediateRow scalarRow plainRow effectOf aluOf unaryOf magnitude applied goesOn advanced movedTo written withScalar scalarOf
+-- 0002930B is ABS, here of s5 to s6: 1
+pub p6 : (opOf 0x0002930B ≡ Unary Abs) × (scalar 6 (afterWord 0x0002930B (afterWord 0xFFF00297 freshThread)) ≡ 1)
+unfolding afterWord
 p6 = (refl, refl)
 
--- 0600030B (CLZ of s0), to s6: 32
-pub p7 : (opOf 0x0600030B ≡ Unary Clz) × (s 6 (then 0x0600030B fresh) ≡ 32)
-unfolding started startRegisters executed decoded opOf scalarRow countRow effectOf unaryOf firstSet applied goesOn advanced movedTo written withScalar scalarOf
+-- 0600030B (CLZ of s0), here to s6: 32
+pub p7 : (opOf 0x0600030B ≡ Unary Clz) × (scalar 6 (afterWord 0x0600030B freshThread) ≡ 32)
+unfolding afterWord
 p7 = (refl, refl)
 
--- the pack of one kernel of one word, and its kernel
+-- the pack of one kernel of one word
 abbrev pub packOf : ℕ → List ℕ
 packOf w =
     1 ∷ 0 ∷ 0 ∷ 0 ∷ 0 ∷ 0 ∷ 0 ∷ 0 ∷ 1 ∷ 0 ∷ 0 ∷ 0 ∷ 1 ∷ 0 ∷ 0 ∷ 0
     ∷ byteOf 0 w ∷ byteOf 1 w ∷ byteOf 2 w ∷ byteOf 3 w ∷ []
 
+-- it is not faulty
 pub pack-of-sound : (w : ℕ) → soundPack (packOf w) ≡ true
 unfolding soundPack kernelCount codeCount allLie liesInCode firstWord kernelWords wordAt
 pack-of-sound w = refl
 
+-- its kernel
 abbrev theKernel : Kernel
 theKernel = record { start = 16; length = 4 }
 

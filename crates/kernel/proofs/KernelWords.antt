@@ -1,99 +1,55 @@
 -- A thread's result depends on the kernel's words, the window and the thread's four inputs alone.
 -- Assumes nothing.
 use mathlib.Core.Path.{_≡_, refl, sym, _∙_}
-use mathlib.Core.Bool.{Bool, true, false, cond, _&&_}
 use mathlib.Core.List.{List}
 use mathlib.Core.Logic.{_⊎_, inl, inr}
 use Prim.Native.Nat.{ℕ, zero, suc, _+_, _*_, _/_, _%_, _≤_, _<_}
 use native.Mathlib.Omega.{arith}
-use lib.Dec.{eqb, ltb}
-use lib.ListN as ListN
-use borrow.Author.Tests.{eqb-true}
-use Rattle.words.specs.Arithmetic.{sum}
 use Rattle.words.proofs.Order.{lt-or-ge}
-use Rattle.memory.specs.declared.address.Reach.{Reach}
-use Rattle.memory.specs.declared.address.Reach.the-variants.{Inside, Outside}
-use Rattle.memory.specs.Address.{reachOf, ifInside}
-use Rattle.memory.specs.Access.{bytesOf}
 use Rattle.memory.specs.Place.{wordAt}
 use Rattle.memory.specs.After.{after}
-use Rattle.memory.proofs.After.{after-agree, after-keeps}
-use Rattle.instruction.specs.declared.effect.Stop.the-variants.{OffTheKernel}
-use Rattle.instruction.specs.declared.effect.Effect.{Effect}
-use Rattle.instruction.specs.declared.effect.Effect.the-variants.{Put, PutQuad, Store, StoreQuad, Go, Next, End, Stop as StopFor}
+use Rattle.memory.proofs.After.{after-agree}
 use Rattle.kernel.specs.declared.pack.Kernel.{Kernel}
 use Rattle.kernel.specs.declared.thread.Thread.{Thread}
 use Rattle.kernel.specs.declared.step.Progress.{Progress}
 use Rattle.kernel.specs.declared.step.Progress.the-variants.{Running, Ended, Stopped}
 use Rattle.kernel.specs.Pack.{kernelOf}
-use Rattle.kernel.specs.Thread.{started, written, writtenVector, movedTo, advanced}
-use Rattle.kernel.specs.Step.{stops, goesOn, ends, lands, branched, afterStore, applied, stepOf}
+use Rattle.kernel.specs.Thread.{started, movedTo, advanced}
+use Rattle.kernel.specs.Step.{stops, goesOn, ends, branched, stepOf}
 use Rattle.kernel.specs.Run.{ifRunning, stepMore, running, stepsOf, runOf}
 use Rattle.kernel.specs.Dispatch.{going, threadOf, threadMore, threadsOf, dispatchOf}
-use Rattle.kernel.proofs.Steps.{at-the-limit, within-the-limit, instruction-done, step-cases}
+use Rattle.kernel.proofs.StepByStep.{each-step-keeps}
+use Rattle.kernel.proofs.Steps.{at-the-limit, off-the-end, instruction-done, step-cases}
 
 -- a thread stands at a multiple of 4
 abbrev pub Aligned : Thread → Type 0
 Aligned t = t .place % 4 ≡ 0
 
-module _ (t : Thread) (aligned : Aligned t) where
-  next-aligned : sum 32 (t .place) 4 % 4 ≡ 0
-  next-aligned = omega arith
-
-  store-aligned : (reach : Reach) → Aligned (afterStore reach t .thread)
-  unfolding afterStore ifInside goesOn stops advanced movedTo
-  store-aligned Inside = next-aligned
-  store-aligned Outside = aligned
-
-  branch-aligned : (place : ℕ) (multiple inside : Bool) → eqb (place % 4) 0 ≡ multiple
-      → Aligned (cond (multiple && inside) (record { thread = movedTo t place; progress = Running }) (stops OffTheKernel t) .thread)
-  unfolding movedTo stops
-  branch-aligned place true true e = eqb-true (place % 4) 0 e
-  branch-aligned place true false e = aligned
-  branch-aligned place false inside e = aligned
-
-  effect-aligned : (length rd : ℕ) (window : List ℕ) (effect : Effect) → Aligned (applied length rd effect t window .stepped .thread)
-  unfolding applied goesOn ends stops branched lands advanced movedTo written writtenVector
-  effect-aligned length rd window (Put x) = next-aligned
-  effect-aligned length rd window (PutQuad vd q) = next-aligned
-  effect-aligned length rd window (Store width a x) = store-aligned (reachOf (ListN.length window) a (bytesOf width))
-  effect-aligned length rd window (StoreQuad a q) = store-aligned (reachOf (ListN.length window) a 16)
-  effect-aligned length rd window (Go offset) =
-      let place = sum 32 (t .place) offset in
-      branch-aligned place (eqb (place % 4) 0) (ltb place length) refl
-  effect-aligned length rd window Next = next-aligned
-  effect-aligned length rd window End = next-aligned
-  effect-aligned length rd window (StopFor why) = aligned
-
 module _ (limit : ℕ) (pack : List ℕ) (kernel : Kernel) where
   step-aligned : (t : Thread) (window : List ℕ) → Aligned t → Aligned (stepOf limit pack kernel t window .stepped .thread)
-  unfolding stops
-  step-aligned t window aligned =
-      step-cases limit pack kernel t window (λ s. Aligned (s .stepped .thread)) (λ h. aligned) (λ h. aligned)
-      (λ h rd effect not. effect-aligned t aligned (kernel .length) rd window effect)
-
-  more-aligned : (p : Progress) (t : Thread) (window : List ℕ) → Aligned t
-      → Aligned (stepMore limit pack kernel (record { stepped = record { thread = t; progress = p }; window = window }) .stepped .thread)
-  unfolding stepMore ifRunning
-  more-aligned Running t window h = step-aligned t window h
-  more-aligned Ended t window h = h
-  more-aligned (Stopped why) t window h = h
+  unfolding goesOn ends stops advanced movedTo
+  step-aligned t window aligned = step-cases limit pack kernel t window (λ s. Aligned (s .stepped .thread)) (record {
+    next = λ h t′ place steps. omega arith;
+    stored = λ h width a x. omega arith;
+    stored-quad = λ h a q. omega arith;
+    branched = λ h place multiple inside. multiple;
+    ended = λ h. omega arith;
+    stopped = λ why only. aligned;
+  })
 
   -- a thread that starts at a multiple of 4 always stands at one
   pub steps-aligned : (n : ℕ) (t : Thread) (window : List ℕ) → Aligned t → Aligned (stepsOf n limit pack kernel t window .stepped .thread)
-  unfolding stepsOf running
-  steps-aligned n t window h =
-      after-keeps (λ i. stepMore limit pack kernel) (λ s. Aligned (s .stepped .thread)) n (running t window)
-      (λ i s b k. more-aligned (s .stepped .progress) (s .stepped .thread) (s .window) k) h
+  unfolding running
+  steps-aligned = each-step-keeps limit pack kernel (λ s. Aligned (s .stepped .thread)) step-aligned
 
--- two kernels of the same length with the same words
+-- two kernels of the same length, with the same words
 pub record SameWords (pack₁ : List ℕ) (kernel₁ : Kernel) (pack₂ : List ℕ) (kernel₂ : Kernel) : Type 0 where
   pub length : kernel₁ .length ≡ kernel₂ .length
   pub words : (place : ℕ) → place < kernel₁ .length → place % 4 ≡ 0
       → wordAt pack₁ (kernel₁ .start + place) ≡ wordAt pack₂ (kernel₂ .start + place)
 
 module _ (limit : ℕ) (pack₁ : List ℕ) (kernel₁ : Kernel) (pack₂ : List ℕ) (kernel₂ : Kernel) (same : SameWords pack₁ kernel₁ pack₂ kernel₂) where
-  -- give the same step
+  -- the same step
   pub same-step : (t : Thread) (window : List ℕ) → Aligned t → stepOf limit pack₁ kernel₁ t window ≡ stepOf limit pack₂ kernel₂ t window
   same-step t window aligned = go (lt-or-ge (t .steps) limit) (lt-or-ge (t .place) (kernel₁ .length))
     where
@@ -101,8 +57,8 @@ module _ (limit : ℕ) (pack₁ : List ℕ) (kernel₁ : Kernel) (pack₂ : List
           → stepOf limit pack₁ kernel₁ t window ≡ stepOf limit pack₂ kernel₂ t window
       go (inr h) place = at-the-limit limit pack₁ kernel₁ t window h ∙ sym (at-the-limit limit pack₂ kernel₂ t window h)
       go (inl h) (inr off) =
-          within-the-limit limit pack₁ kernel₁ t window h off
-          ∙ sym (within-the-limit limit pack₂ kernel₂ t window h (omega (arith, same .length)))
+          off-the-end limit pack₁ kernel₁ t window h off
+          ∙ sym (off-the-end limit pack₂ kernel₂ t window h (omega (arith, same .length)))
       go (inl h) (inl on) =
           instruction-done limit pack₁ kernel₁ t window h on
           ∙ (rw (same .words (t .place) on aligned, same .length))

@@ -5,11 +5,13 @@ use mathlib.Core.List.{List}
 use Prim.Native.Nat.{ℕ, suc, _+_}
 use native.Mathlib.Numerals.{add-one}
 use Rattle.memory.specs.After.{after}
+use Rattle.memory.proofs.After.{after-keeps}
 use Rattle.kernel.specs.declared.pack.Kernel.{Kernel}
 use Rattle.kernel.specs.declared.thread.Thread.{Thread}
-use Rattle.kernel.specs.declared.step.Progress.the-variants.{Running}
+use Rattle.kernel.specs.declared.step.Progress.{Progress}
+use Rattle.kernel.specs.declared.step.Progress.the-variants.{Running, Ended, Stopped}
 use Rattle.kernel.specs.Step.{State, stepOf}
-use Rattle.kernel.specs.Run.{ifRunning, stepMore, stepsOf, runOf}
+use Rattle.kernel.specs.Run.{ifRunning, stepMore, running, stepsOf, runOf}
 use Rattle.kernel.proofs.Runs.{AtRest}
 
 module _ (limit : ℕ) (pack : List ℕ) (kernel : Kernel) where
@@ -24,6 +26,21 @@ module _ (limit : ℕ) (pack : List ℕ) (kernel : Kernel) where
   unfolding stepMore
   more-at-rest s rest = rest _ _
 
+  -- what each step of a running thread keeps, n steps keep
+  module _ (P : State → Type 0) (step : (t : Thread) (window : List ℕ) → P (running t window) → P (stepOf limit pack kernel t window)) where
+    more-keeps : (p : Progress) (t : Thread) (window : List ℕ) → P (record { stepped = record { thread = t; progress = p }; window = window })
+        → P (stepMore limit pack kernel (record { stepped = record { thread = t; progress = p }; window = window }))
+    unfolding stepMore ifRunning running
+    more-keeps Running t window h = step t window h
+    more-keeps Ended t window h = h
+    more-keeps (Stopped why) t window h = h
+
+    pub each-step-keeps : (n : ℕ) (t : Thread) (window : List ℕ) → P (running t window) → P (stepsOf n limit pack kernel t window)
+    unfolding stepsOf
+    each-step-keeps n t window h =
+        after-keeps (λ i. stepMore limit pack kernel) P n (running t window)
+        (λ i s b. more-keeps (s .stepped .progress) (s .stepped .thread) (s .window)) h
+
   module _ (t : Thread) (window : List ℕ) where
     -- n + 1 steps are n steps and then one more
     pub one-more : (n : ℕ) → stepsOf (suc n) limit pack kernel t window ≡ stepMore limit pack kernel (stepsOf n limit pack kernel t window)
@@ -35,5 +52,6 @@ module _ (limit : ℕ) (pack : List ℕ) (kernel : Kernel) where
     unfolding runOf
     run-is-steps = refl
 
+    -- so its last step is taken after the limit's steps
     pub run-last-step : runOf limit pack kernel t window ≡ stepMore limit pack kernel (stepsOf limit limit pack kernel t window)
     run-last-step = run-is-steps ∙ (rw add-one (one-more limit))

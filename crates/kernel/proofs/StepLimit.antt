@@ -1,6 +1,6 @@
 -- The step limit: stop 14 is given exactly to a thread that is still running after the limit's steps.
 -- Assumes nothing.
-use mathlib.Core.Path.{_≡_, refl, ap, _∙_}
+use mathlib.Core.Path.{_≡_, refl, _∙_}
 use mathlib.Core.List.{List}
 use mathlib.Core.Logic.{_↔_}
 use Prim.Native.Nat.{ℕ, zero, suc, _+_, _≤_, _<_}
@@ -19,7 +19,7 @@ use Rattle.kernel.specs.Step.{State, stops, ends, applied, executed, ste
 use Rattle.kernel.specs.Run.{ifRunning, stepMore, running, stepsOf, runOf}
 use Rattle.kernel.proofs.Runs.{one-step-more, run-rests, ended-rests, stopped-rests}
 use Rattle.kernel.proofs.StepByStep.{more-running, run-last-step}
-use Rattle.kernel.proofs.Steps.{Counted, counted-effect, stop-of-effect, step-cases, at-the-limit, instruction-done}
+use Rattle.kernel.proofs.Steps.{Counted, stoppedAt, step-counts, at-the-limit, instruction-done}
 
 -- a thread that is running after n steps took n, and no more than the limit; it is stopped with 14 only past the limit
 abbrev Took : ℕ → ℕ → Progress → ℕ → Type 0
@@ -30,26 +30,24 @@ Took limit n (Stopped why) steps = (steps ≤ limit) × (why ≡ OutOfSteps → 
 abbrev TookState : ℕ → ℕ → State → Type 0
 TookState limit n s = Took limit n (s .stepped .progress) (s .stepped .thread .steps)
 
--- a step taken below the limit counts, and is not stopped with 14
-counted-took : (limit n : ℕ) (p : Progress) (before now : ℕ) → before ≡ n → before < limit → Counted before p now
-    → (p ≡ Stopped OutOfSteps → ⊥) → Took limit (suc n) p now
-counted-took limit n Running before now took below counted not = omega arith
-counted-took limit n Ended before now took below counted not = omega arith
-counted-took limit n (Stopped why) before now took below counted not = (omega arith, λ e. absurd (not (ap Stopped e)))
+-- a step keeps that
+counted-took : (limit n : ℕ) (p : Progress) (before now : ℕ) → before ≡ n → n ≤ limit → Counted limit before p now → Took limit (suc n) p now
+counted-took limit n Running before now took below counted = omega arith
+counted-took limit n Ended before now took below counted = omega arith
+counted-took limit n (Stopped why) before now took below counted = (omega arith, λ e. omega (arith, counted .1 e))
+
+took-at-most : (limit n : ℕ) (p : Progress) (steps : ℕ) → Took limit n p steps → steps ≤ limit
+took-at-most limit n Running steps h = omega arith
+took-at-most limit n Ended steps h = h
+took-at-most limit n (Stopped why) steps h = h .0
 
 module _ (limit : ℕ) (pack : List ℕ) (kernel : Kernel) where
-  step-took : (n : ℕ) (t : Thread) (window : List ℕ) → t .steps ≡ n → n ≤ limit → TookState limit (suc n) (stepOf limit pack kernel t window)
-  unfolding stops
-  step-took n t window took below =
-      step-cases limit pack kernel t window (TookState limit (suc n)) (λ h. (omega arith, λ e. omega arith))
-      (λ h. (omega arith, λ e. let z : _≡_ {A = ℕ} 0 1 = cc in omega arith))
-      (λ h rd effect not. counted-took limit n _ (t .steps) _ took h (counted-effect (kernel .length) rd t window effect)
-      (λ e. not (stop-of-effect (kernel .length) rd t window effect e)))
-
   more-took : (n : ℕ) (p : Progress) (t : Thread) (window : List ℕ) → Took limit n p (t .steps)
       → TookState limit (suc n) (stepMore limit pack kernel (record { stepped = record { thread = t; progress = p }; window = window }))
   unfolding stepMore ifRunning
-  more-took n Running t window h = step-took n t window (h .0) (h .1)
+  more-took n Running t window h =
+      let r = stepOf limit pack kernel t window .stepped in
+      counted-took limit n (r .progress) (t .steps) (r .thread .steps) (h .0) (h .1) (step-counts limit pack kernel t window)
   more-took n Ended t window h = h
   more-took n (Stopped why) t window h = (h .0, λ e. omega (arith, h .1 e))
 
@@ -80,13 +78,18 @@ module _ (limit : ℕ) (pack : List ℕ) (kernel : Kernel) where
       unfolding runOf
       run-not-running e = omega (arith, (rw e at (state-took (limit + 1))) .1)
 
+      -- and took at most the limit's steps
+      pub run-took : end .stepped .thread .steps ≤ limit
+      unfolding runOf
+      run-took = took-at-most limit (limit + 1) (end .stepped .progress) (end .stepped .thread .steps) (state-took (limit + 1))
+
       -- no thread is stopped with 14 within the limit's steps
       pub not-before-the-limit : (n : ℕ) → n ≤ limit → state n .stepped .progress ≡ Stopped OutOfSteps → ⊥
       not-before-the-limit n h e = omega (arith, (rw e at (state-took n)) .1 refl)
 
       -- a thread still running after the limit's steps is stopped with 14, and all is as those steps left it
       pub running-at-the-limit : state limit .stepped .progress ≡ Running
-          → end ≡ record { stepped = stops OutOfSteps (state limit .stepped .thread); window = state limit .window }
+          → end ≡ stoppedAt OutOfSteps (state limit .stepped .thread) (state limit .window)
       running-at-the-limit e =
           run-last-step limit pack kernel t window
           ∙ more-running limit pack kernel (state limit) e

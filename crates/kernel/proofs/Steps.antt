@@ -1,130 +1,147 @@
--- Laws of one step: what it adds to the steps taken, and when it gives stop 14.
+-- What can become of a step, and what it adds to the steps taken; when it gives stop 14.
 -- Assumes nothing.
-use mathlib.Core.Path.{_≡_, refl}
-use mathlib.Core.Bool.{Bool, true, false, cond}
+use mathlib.Core.Path.{_≡_, refl, ap}
+use mathlib.Core.Bool.{Bool, true, false, cond, _&&_}
 use mathlib.Core.List.{List}
-use mathlib.Core.Logic.{_⊎_, inl, inr}
-use Prim.Native.Nat.{ℕ, _+_, _≤_, _<_}
+use mathlib.Core.Logic.{_↔_, _⊎_, inl, inr}
+use Prim.Native.Nat.{ℕ, _+_, _%_, _≤_, _<_}
 use native.Mathlib.Omega.{arith}
+use lib.Dec.{eqb, ltb}
 use lib.ListN as ListN
-use borrow.Author.Tests.{le-leb, lt-leb}
+use borrow.Author.Tests.{le-leb, lt-leb, eqb-true, ltb-true}
 use Rattle.words.specs.Arithmetic.{sum}
 use Rattle.words.proofs.Order.{lt-or-ge}
-use Rattle.memory.specs.Address.{reachOf, ifInside}
-use Rattle.memory.specs.Access.{bytesOf}
-use Rattle.memory.specs.Place.{wordAt}
+use Rattle.memory.specs.declared.access.Width.{Width}
+use Rattle.memory.specs.declared.quad.Quad.{Quad}
 use Rattle.memory.specs.declared.address.Reach.{Reach}
 use Rattle.memory.specs.declared.address.Reach.the-variants.{Inside, Outside}
-use Rattle.instruction.specs.declared.effect.Stop.the-variants.{OffTheKernel, OutOfSteps}
+use Rattle.memory.specs.Address.{reachOf, ifInside}
+use Rattle.memory.specs.Access.{bytesOf, withValue, storeOf}
+use Rattle.memory.specs.Quad.{withQuad, storeQuadOf}
+use Rattle.memory.specs.Place.{wordAt}
+use Rattle.instruction.specs.declared.effect.Stop.{Stop}
+use Rattle.instruction.specs.declared.effect.Stop.the-variants.{OffTheKernel, OutsideTheWindow, OutOfSteps}
 use Rattle.instruction.specs.declared.effect.Effect.{Effect}
 use Rattle.instruction.specs.declared.effect.Effect.the-variants.{Put, PutQuad, Store, StoreQuad, Go, Next, End, Stop as StopFor}
 use Rattle.instruction.specs.Decode.{decoded}
 use Rattle.instruction.proofs.Stops.{never-out-of-steps}
 use Rattle.kernel.specs.declared.pack.Kernel.{Kernel}
 use Rattle.kernel.specs.declared.thread.Thread.{Thread}
-use Rattle.kernel.specs.declared.step.Stepped.{Stepped}
 use Rattle.kernel.specs.declared.step.Progress.{Progress}
 use Rattle.kernel.specs.declared.step.Progress.the-variants.{Running, Ended, Stopped}
 use Rattle.kernel.specs.Thread.{written, writtenVector, movedTo, advanced}
 use Rattle.kernel.specs.Step.{State, stops, goesOn, ends, lands, branched, afterStore, applied, executed, stepOf}
 
--- a step that leaves the thread running, and WFI, adds one to the steps; a stop adds none
-abbrev pub Counted : ℕ → Progress → ℕ → Type 0
-Counted before Running now = now ≡ before + 1
-Counted before Ended now = now ≡ before + 1
-Counted before (Stopped why) now = now ≡ before
+-- the thread stopped, and nothing else changed
+abbrev pub stoppedAt : Stop → Thread → List ℕ → State
+stoppedAt why t window = record { stepped = stops why t; window = window }
 
-abbrev pub CountedStep : Thread → Stepped → Type 0
-CountedStep t r = Counted (t .steps) (r .progress) (r .thread .steps)
+-- a step that leaves the thread running, and WFI, is taken below the limit and adds one to the steps;
+-- a stop adds none, and is 14 only at the limit
+abbrev pub Counted : ℕ → ℕ → Progress → ℕ → Type 0
+Counted limit before Running now = (now ≡ before + 1) × (before < limit)
+Counted limit before Ended now = (now ≡ before + 1) × (before < limit)
+Counted limit before (Stopped why) now = (now ≡ before) × (why ≡ OutOfSteps → limit ≤ before)
 
-counted-store : (t : Thread) (reach : Reach) → CountedStep t (afterStore reach t)
-unfolding afterStore ifInside goesOn stops advanced movedTo
-counted-store t Inside = refl
-counted-store t Outside = refl
+-- what a step in a kernel of `length` bytes can come to: P of each
+pub record Outcomes (P : State → Type 0) (limit length : ℕ) (t : Thread) (window : List ℕ) : Type 0 where
+  -- the next instruction, perhaps with a register written
+  pub next : t .steps < limit → (t′ : Thread) → t′ .place ≡ t .place → t′ .steps ≡ t .steps → P (record { stepped = goesOn t′; window = window })
+  -- the next instruction after a store
+  pub stored : t .steps < limit → (width : Width) (a x : ℕ) → P (record { stepped = goesOn t; window = storeOf window width a x })
+  pub stored-quad : t .steps < limit → (a : ℕ) (q : Quad) → P (record { stepped = goesOn t; window = storeQuadOf window a q })
+  -- a taken branch
+  pub branched : t .steps < limit → (place : ℕ) → place % 4 ≡ 0 → place < length
+      → P (record { stepped = record { thread = movedTo t place; progress = Running }; window = window })
+  -- the thread's end
+  pub ended : t .steps < limit → P (record { stepped = ends t; window = window })
+  -- a stop, which is 14 only after the limit's steps
+  pub stopped : (why : Stop) → (why ≡ OutOfSteps → limit ≤ t .steps) → P (stoppedAt why t window)
 
-counted-branch : (t : Thread) (place : ℕ) (inside : Bool)
-    → CountedStep t (cond inside (record { thread = movedTo t place; progress = Running }) (stops OffTheKernel t))
-unfolding stops movedTo
-counted-branch t place true = refl
-counted-branch t place false = refl
+outside-is-not-14 : OutsideTheWindow ≡ OutOfSteps → ⊥
+outside-is-not-14 e = let z : _≡_ {A = ℕ} 0 1 = cc in omega arith
 
-pub counted-effect : (length rd : ℕ) (t : Thread) (window : List ℕ) (effect : Effect) → CountedStep t (applied length rd effect t window .stepped)
-unfolding applied goesOn ends stops branched advanced movedTo written writtenVector
-counted-effect length rd t window (Put x) = refl
-counted-effect length rd t window (PutQuad vd q) = refl
-counted-effect length rd t window (Store width a x) = counted-store t (reachOf (ListN.length window) a (bytesOf width))
-counted-effect length rd t window (StoreQuad a q) = counted-store t (reachOf (ListN.length window) a 16)
-counted-effect length rd t window (Go offset) = counted-branch t (sum 32 (t .place) offset) (lands length (sum 32 (t .place) offset))
-counted-effect length rd t window Next = refl
-counted-effect length rd t window End = refl
-counted-effect length rd t window (StopFor why) = refl
+off-is-not-14 : OffTheKernel ≡ OutOfSteps → ⊥
+off-is-not-14 e = let z : _≡_ {A = ℕ} 0 1 = cc in omega arith
 
-stop-of-store : (t : Thread) (reach : Reach) (effect : Effect) → afterStore reach t .progress ≡ Stopped OutOfSteps → effect ≡ StopFor OutOfSteps
-unfolding afterStore ifInside goesOn stops
-stop-of-store t Inside effect e = cc
-stop-of-store t Outside effect e = cc
+module _ (P : State → Type 0) (t : Thread) (window : List ℕ) where
+  -- a store is done inside the window or stops the thread
+  of-store : (reach : Reach) (stored : List ℕ)
+      → P (record { stepped = goesOn t; window = ifInside reach stored window }) → P (stoppedAt OutsideTheWindow t window)
+      → P (record { stepped = afterStore reach t; window = ifInside reach stored window })
+  unfolding afterStore ifInside
+  of-store Inside stored inside outside = inside
+  of-store Outside stored inside outside = outside
 
-stop-of-branch : (t : Thread) (place : ℕ) (inside : Bool) (effect : Effect)
-    → cond inside (record { thread = movedTo t place; progress = Running }) (stops OffTheKernel t) .progress ≡ Stopped OutOfSteps
-    → effect ≡ StopFor OutOfSteps
-unfolding stops
-stop-of-branch t place true effect e = cc
-stop-of-branch t place false effect e = cc
+  -- a taken branch lands or stops the thread
+  of-branch : (length place : ℕ) (multiple inside : Bool) → eqb (place % 4) 0 ≡ multiple → ltb place length ≡ inside
+      → (place % 4 ≡ 0 → place < length → P (record { stepped = record { thread = movedTo t place; progress = Running }; window = window }))
+      → P (stoppedAt OffTheKernel t window)
+      → P (record { stepped = cond (multiple && inside) (record { thread = movedTo t place; progress = Running }) (stops OffTheKernel t); window = window })
+  of-branch length place true true m i lands off = lands (eqb-true _ _ m) (ltb-true _ _ i)
+  of-branch length place true false m i lands off = off
+  of-branch length place false inside m i lands off = off
 
-pub stop-of-effect : (length rd : ℕ) (t : Thread) (window : List ℕ) (effect : Effect)
-    → applied length rd effect t window .stepped .progress ≡ Stopped OutOfSteps → effect ≡ StopFor OutOfSteps
-unfolding applied goesOn ends stops branched
-stop-of-effect length rd t window (Put x) e = cc
-stop-of-effect length rd t window (PutQuad vd q) e = cc
-stop-of-effect length rd t window (Store width a x) e = stop-of-store t (reachOf (ListN.length window) a (bytesOf width)) _ e
-stop-of-effect length rd t window (StoreQuad a q) e = stop-of-store t (reachOf (ListN.length window) a 16) _ e
-stop-of-effect length rd t window (Go offset) e =
-    stop-of-branch t (sum 32 (t .place) offset) (lands length (sum 32 (t .place) offset)) _ e
-stop-of-effect length rd t window Next e = cc
-stop-of-effect length rd t window End e = cc
-stop-of-effect length rd t window (StopFor why) e = cc
+  module _ (limit length rd : ℕ) (below : t .steps < limit) (cases : Outcomes P limit length t window) where
+    of-effect : (effect : Effect) → (effect ≡ StopFor OutOfSteps → ⊥) → P (applied length rd effect t window)
+    unfolding applied written writtenVector storeOf storeQuadOf branched lands
+    of-effect (Put x) not = cases .next below (written t rd x) refl refl
+    of-effect (PutQuad vd q) not = cases .next below (writtenVector t (vd % 32) q) refl refl
+    of-effect (Store width a x) not =
+        of-store (reachOf (ListN.length window) a (bytesOf width)) (withValue window width a x) (cases .stored below width a x)
+        (cases .stopped OutsideTheWindow (λ e. absurd (outside-is-not-14 e)))
+    of-effect (StoreQuad a q) not =
+        of-store (reachOf (ListN.length window) a 16) (withQuad window a q) (cases .stored-quad below a q)
+        (cases .stopped OutsideTheWindow (λ e. absurd (outside-is-not-14 e)))
+    of-effect (Go offset) not =
+        of-branch length (sum 32 (t .place) offset) _ _ refl refl (cases .branched below (sum 32 (t .place) offset))
+        (cases .stopped OffTheKernel (λ e. absurd (off-is-not-14 e)))
+    of-effect Next not = cases .next below t refl refl
+    of-effect End not = cases .ended below
+    of-effect (StopFor why) not = cases .stopped why (λ e. absurd (not (ap StopFor e)))
 
 module _ (limit : ℕ) (pack : List ℕ) (kernel : Kernel) (t : Thread) (window : List ℕ) where
-  -- a thread that already took the limit's steps stops with 14, and nothing changes
-  pub at-the-limit : limit ≤ t .steps → stepOf limit pack kernel t window ≡ record { stepped = stops OutOfSteps t; window = window }
+  -- a thread that already took the limit's steps stops with 14
+  pub at-the-limit : limit ≤ t .steps → stepOf limit pack kernel t window ≡ stoppedAt OutOfSteps t window
   unfolding stepOf
   at-the-limit h = rw (le-leb limit (t .steps) h)
 
-  -- one that took fewer runs off the kernel's end or does its instruction
-  pub within-the-limit : t .steps < limit → kernel .length ≤ t .place
-      → stepOf limit pack kernel t window ≡ record { stepped = stops OffTheKernel t; window = window }
+  -- one that took fewer and ran off the kernel's end stops with 12
+  pub off-the-end : t .steps < limit → kernel .length ≤ t .place → stepOf limit pack kernel t window ≡ stoppedAt OffTheKernel t window
   unfolding stepOf
-  within-the-limit h off = simp (lt-leb limit (t .steps) h, le-leb (kernel .length) (t .place) off)
+  off-the-end h off = simp (lt-leb limit (t .steps) h, le-leb (kernel .length) (t .place) off)
 
+  -- any other does the instruction at its place
   pub instruction-done : t .steps < limit → t .place < kernel .length
       → stepOf limit pack kernel t window ≡ executed (kernel .length) (decoded (wordAt pack (kernel .start + t .place))) t window
   unfolding stepOf
   instruction-done h on = simp (lt-leb limit (t .steps) h, lt-leb (kernel .length) (t .place) on)
 
-  -- what holds of either stop and of each instruction's effect holds of the step
-  pub step-cases : (P : State → Type 0)
-      → (limit ≤ t .steps → P (record { stepped = stops OutOfSteps t; window = window }))
-      → (t .steps < limit → P (record { stepped = stops OffTheKernel t; window = window }))
-      → (t .steps < limit → (rd : ℕ) (effect : Effect) → (effect ≡ StopFor OutOfSteps → ⊥) → P (applied (kernel .length) rd effect t window))
-      → P (stepOf limit pack kernel t window)
+  -- what holds of all that a step can come to holds of the step
+  pub step-cases : (P : State → Type 0) → Outcomes P limit (kernel .length) t window → P (stepOf limit pack kernel t window)
   unfolding executed
-  step-cases P out off done = go (lt-or-ge (t .steps) limit) (lt-or-ge (t .place) (kernel .length))
+  step-cases P cases = go (lt-or-ge (t .steps) limit) (lt-or-ge (t .place) (kernel .length))
     where
       go : (t .steps < limit) ⊎ (limit ≤ t .steps) → (t .place < kernel .length) ⊎ (kernel .length ≤ t .place)
           → P (stepOf limit pack kernel t window)
-      go (inr h) place = rw (at-the-limit h) (out h)
-      go (inl h) (inr past) = rw (within-the-limit h past) (off h)
-      go (inl h) (inl on) = rw (instruction-done h on) (done h _ _ (never-out-of-steps _ _ _ _ _))
+      go (inr h) place = rw (at-the-limit h) (cases .stopped OutOfSteps (λ e. h))
+      go (inl h) (inr off) = rw (off-the-end h off) (cases .stopped OffTheKernel (λ e. absurd (off-is-not-14 e)))
+      go (inl h) (inl on) =
+          rw (instruction-done h on) (of-effect P t window limit (kernel .length) _ h cases _ (never-out-of-steps _ _ _ _ _))
 
   -- each step counts
-  pub step-counts : CountedStep t (stepOf limit pack kernel t window .stepped)
-  unfolding stops
-  step-counts =
-      step-cases (λ s. CountedStep t (s .stepped)) (λ h. refl) (λ h. refl) (λ h rd effect no. counted-effect (kernel .length) rd t window effect)
+  pub step-counts : Counted limit (t .steps) (stepOf limit pack kernel t window .stepped .progress) (stepOf limit pack kernel t window .stepped .thread .steps)
+  unfolding goesOn ends stops advanced movedTo
+  step-counts = step-cases (λ s. Counted limit (t .steps) (s .stepped .progress) (s .stepped .thread .steps)) (record {
+    next = λ h t′ place steps. (rw steps, h);
+    stored = λ h width a x. (refl, h);
+    stored-quad = λ h a q. (refl, h);
+    branched = λ h place multiple inside. (refl, h);
+    ended = λ h. (refl, h);
+    stopped = λ why only. (refl, only);
+  })
 
-  -- 14 is given only to a thread that already took the limit's steps
-  pub out-of-steps-only : stepOf limit pack kernel t window .stepped .progress ≡ Stopped OutOfSteps → limit ≤ t .steps
+  -- 14 is given exactly to a thread that already took the limit's steps
+  pub step-out-of-steps : (stepOf limit pack kernel t window .stepped .progress ≡ Stopped OutOfSteps) ↔ (limit ≤ t .steps)
   unfolding stops
-  out-of-steps-only =
-      step-cases (λ s. s .stepped .progress ≡ Stopped OutOfSteps → limit ≤ t .steps) (λ h e. h) (λ h e. let z : _≡_ {A = ℕ} 0 1 = cc in omega arith)
-      (λ h rd effect not e. absurd (not (stop-of-effect (kernel .length) rd t window effect e)))
+  step-out-of-steps = (λ e. (rw e at step-counts) .1 refl, λ h. rw (at-the-limit h))

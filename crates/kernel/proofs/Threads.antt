@@ -58,6 +58,7 @@ module _ (limit : ℕ) (pack : List ℕ) (kernel : Kernel) (groups threads : ℕ
   abbrev pub threadOfGroup : ℕ → ℕ → Dispatched → Dispatched
   threadOfGroup g j d = ifDone (d .ran) (shown (runOfThread g j (d .window))) d
 
+  -- so thread number g · threads + j is the run of thread j of group g
   pub thread-number : (g j : ℕ) (window : List ℕ) → j < threads
       → threadOf limit pack kernel groups threads (g * threads + j) window ≡ shown (runOfThread g j window)
   unfolding threadOf
@@ -115,15 +116,20 @@ module _ (limit : ℕ) (pack : List ℕ) (kernel : Kernel) (groups threads : ℕ
         after-rows (threadMore limit pack kernel groups threads) groups threads (going window)
         ∙ after-agree _ _ groups (going window) (λ g d b. after-agree _ _ threads d (λ j x h. rw (thread-number g j (x .window) h)))
 
-    -- if the first thread stops, the dispatch is that thread's run
+    -- the first thread that stops ends the dispatch, which leaves what that thread's run left
+    pub stopped-by : (n i : ℕ) (window′ : List ℕ) (why : Stop) → i < n → first i ≡ going window′
+        → threadOf limit pack kernel groups threads i window′ .ran ≡ StoppedFor why
+        → first n ≡ threadOf limit pack kernel groups threads i window′
+    stopped-by n i window′ why h e stop =
+        let here = one-thread-more limit pack kernel groups threads window i window′ e in
+        stop-ends (i + 1) n why (omega arith) (rw here stop) ∙ here
+
     pub first-stops : (n : ℕ) (why : Stop) → 0 < n → shown (runOfThread 0 0 window) .ran ≡ StoppedFor why
         → first n ≡ shown (runOfThread 0 0 window)
     unfolding threadOf
     first-stops n why h stop =
-        let here : first 1 ≡ shown (runOfThread 0 0 window) =
-        one-thread-more limit pack kernel groups threads window 0 window (no-thread limit pack kernel groups threads window)
-        ∙ (rw (zero-div threads, zero-mod threads)) in
-        stop-ends 1 n why (omega arith) (rw here stop) ∙ here
+        let zeroth : threadOf limit pack kernel groups threads 0 window ≡ shown (runOfThread 0 0 window) = rw (zero-div threads, zero-mod threads) in
+        stopped-by n 0 window why h (no-thread limit pack kernel groups threads window) (rw zeroth stop) ∙ zeroth
 
 -- a dispatch goes by groups from 0 up, and in each group by threads from 0 up
 pub dispatch-by-groups : (limit : ℕ) (pack : List ℕ) (k groups threads : ℕ) (window : List ℕ)

@@ -1,4 +1,4 @@
--- What a thread and a dispatch do to the window: stores alone. Its length stays, bytes stay bytes, and a stop changes nothing.
+-- Steps, runs and dispatches change the window by stores alone: its length stays, and bytes stay bytes.
 -- Assumes nothing.
 use mathlib.Core.Path.{_≡_, refl, _∙_}
 use mathlib.Core.List.{List}
@@ -12,19 +12,16 @@ use Rattle.memory.proofs.After.{after-keeps}
 use Rattle.memory.proofs.Places.{Bytes}
 use Rattle.memory.proofs.Lengths.{store-length, store-quad-length}
 use Rattle.memory.proofs.ByteSized.{store-bytes, store-quad-bytes}
-use Rattle.instruction.specs.declared.effect.Effect.{Effect}
-use Rattle.instruction.specs.declared.effect.Effect.the-variants.{Put, PutQuad, Store, StoreQuad, Go, Next, End, Stop as StopFor}
 use Rattle.kernel.specs.declared.pack.Kernel.{Kernel}
 use Rattle.kernel.specs.declared.thread.Thread.{Thread}
-use Rattle.kernel.specs.declared.step.Progress.{Progress}
-use Rattle.kernel.specs.declared.step.Progress.the-variants.{Running, Ended, Stopped}
 use Rattle.kernel.specs.declared.dispatch.Ran.{Ran}
 use Rattle.kernel.specs.declared.dispatch.Ran.the-variants.{Done, Stopped as StoppedFor}
 use Rattle.kernel.specs.Pack.{kernelOf}
-use Rattle.kernel.specs.Step.{applied, stepOf}
-use Rattle.kernel.specs.Run.{ifRunning, stepMore, running, stepsOf, runOf}
+use Rattle.kernel.specs.Step.{stepOf}
+use Rattle.kernel.specs.Run.{running, stepsOf, runOf}
 use Rattle.kernel.specs.Dispatch.{shown, ifDone, going, threadOf, threadMore, threadsOf, dispatchOf}
 use Rattle.kernel.proofs.Steps.{step-cases}
+use Rattle.kernel.proofs.StepByStep.{each-step-keeps}
 
 -- what every store keeps
 pub record KeptByStores (P : List ℕ → Type 0) : Type 0 where
@@ -33,35 +30,20 @@ pub record KeptByStores (P : List ℕ → Type 0) : Type 0 where
 
 -- is kept by every step, run and dispatch
 module _ (P : List ℕ → Type 0) (kept : KeptByStores P) (limit : ℕ) (pack : List ℕ) where
-  effect-keeps : (length rd : ℕ) (effect : Effect) (t : Thread) (window : List ℕ) → P window → P (applied length rd effect t window .window)
-  unfolding applied
-  effect-keeps length rd (Put x) t window h = h
-  effect-keeps length rd (PutQuad vd q) t window h = h
-  effect-keeps length rd (Store width a x) t window h = kept .store window width a x h
-  effect-keeps length rd (StoreQuad a q) t window h = kept .quad window a q h
-  effect-keeps length rd (Go offset) t window h = h
-  effect-keeps length rd Next t window h = h
-  effect-keeps length rd End t window h = h
-  effect-keeps length rd (StopFor why) t window h = h
-
   module _ (kernel : Kernel) where
     pub step-keeps : (t : Thread) (window : List ℕ) → P window → P (stepOf limit pack kernel t window .window)
-    step-keeps t window h =
-        step-cases limit pack kernel t window (λ s. P (s .window)) (λ l. h) (λ l. h)
-        (λ l rd effect not. effect-keeps (kernel .length) rd effect t window h)
-
-    more-keeps : (p : Progress) (t : Thread) (window : List ℕ) → P window
-        → P (stepMore limit pack kernel (record { stepped = record { thread = t; progress = p }; window = window }) .window)
-    unfolding stepMore ifRunning
-    more-keeps Running t window h = step-keeps t window h
-    more-keeps Ended t window h = h
-    more-keeps (Stopped why) t window h = h
+    step-keeps t window h = step-cases limit pack kernel t window (λ s. P (s .window)) (record {
+      next = λ l t′ place steps. h;
+      stored = λ l width a x. kept .store window width a x h;
+      stored-quad = λ l a q. kept .quad window a q h;
+      branched = λ l place multiple inside. h;
+      ended = λ l. h;
+      stopped = λ why only. h;
+    })
 
     pub steps-keep : (n : ℕ) (t : Thread) (window : List ℕ) → P window → P (stepsOf n limit pack kernel t window .window)
-    unfolding stepsOf running
-    steps-keep n t window h =
-        after-keeps (λ i. stepMore limit pack kernel) (λ s. P (s .window)) n (running t window)
-        (λ i s b k. more-keeps (s .stepped .progress) (s .stepped .thread) (s .window) k) h
+    unfolding running
+    steps-keep = each-step-keeps limit pack kernel (λ s. P (s .window)) step-keeps
 
     pub run-keeps : (t : Thread) (window : List ℕ) → P window → P (runOf limit pack kernel t window .window)
     unfolding runOf
