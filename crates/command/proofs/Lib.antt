@@ -1,0 +1,6 @@
+pub mod Choices
+pub mod Every
+pub mod Entries
+pub mod Outcomes
+pub mod Sizes
+pub mod Agree

@@ -1,0 +1,5 @@
+pub mod Outcome
+pub mod Opcode
+pub mod Table
+pub mod Flags
+pub mod Header

@@ -1,0 +1,6 @@
+// Commands: the header, the opcode table, the faults in order, and the work of each command on its ring's window.
+pub mod flags;
+pub mod header;
+pub mod opcode;
+pub mod outcome;
+pub mod table;
