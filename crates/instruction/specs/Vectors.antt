@@ -13,7 +13,8 @@ quadOf vectors n = record {
   w0 = getD vectors (n * 4) 0;
   w1 = getD vectors (n * 4 + 1) 0;
   w2 = getD vectors (n * 4 + 2) 0;
-  w3 = getD vectors (n * 4 + 3) 0 }
+  w3 = getD vectors (n * 4 + 3) 0;
+}
 
 -- the registers with four words in register n
 unfoldable pub withQuad : List ℕ → ℕ → Quad → List ℕ
@@ -26,7 +27,8 @@ lanesOfQuads op ty a b = record {
   w0 = lanesOf op ty (a .w0) (b .w0);
   w1 = lanesOf op ty (a .w1) (b .w1);
   w2 = lanesOf op ty (a .w2) (b .w2);
-  w3 = lanesOf op ty (a .w3) (b .w3) }
+  w3 = lanesOf op ty (a .w3) (b .w3);
+}
 
 -- one word to four
 abbrev pub broadcast : ℕ → Quad

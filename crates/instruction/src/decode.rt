@@ -3,8 +3,8 @@ ghost use mathlib.Core.Path.{_≡_};
 ghost use Rattle.words.specs.Fields.{rdOf, funct3Of, rs1Of, rs2Of, funct7Of, funct6Of, immI, immS, immB, immU};
 ghost use Rattle.instruction.specs.Rows.{scalarRow, immediateRow, branchRow, loadRow, storeRow, vectorRow, transferRow, vldRow, vstRow};
 ghost use Rattle.instruction.specs.Decode.{unusedIs0, vectorOf, transferOf, vldOf, vstOf, opOf, decoded};
-
-use crate::list::{Instr, Op};
+use crate::list::Instr;
+use crate::list::Op;
 use crate::rows;
 use words::fields;
 
@@ -17,7 +17,12 @@ fn scalar(w: u32) -> Op
 fn immediate(w: u32) -> Op
     ensures { λ r. ⌜ r ≡ immediateRow (funct3Of w) (funct7Of w) (rs2Of w) (immI w) ⌝ }
 {
-    rows::immediate_row(fields::funct3(w), fields::funct7(w), fields::rs2(w), fields::imm_i(w))
+    rows::immediate_row(
+        fields::funct3(w),
+        fields::funct7(w),
+        fields::rs2(w),
+        fields::imm_i(w),
+    )
 }
 
 fn branch(w: u32) -> Op
@@ -41,17 +46,19 @@ fn store(w: u32) -> Op
 fn if_unused(unused: u32, op: Op) -> Op
     ensures { λ r. ⌜ r ≡ unusedIs0 unused op ⌝ }
 {
-    if unused == 0 {
-        op
-    } else {
-        Op::Unlisted
-    }
+    if unused == 0 { op } else { Op::Unlisted }
 }
 
 fn vector(w: u32) -> Op
     ensures { λ r. ⌜ r ≡ vectorOf w ⌝ }
 {
-    let op = rows::vector_row(fields::funct6(w), fields::funct3(w), fields::rd(w), fields::rs1(w), fields::rs2(w));
+    let op = rows::vector_row(
+        fields::funct6(w),
+        fields::funct3(w),
+        fields::rd(w),
+        fields::rs1(w),
+        fields::rs2(w),
+    );
     if_unused(fields::bit25(w), op)
 }
 

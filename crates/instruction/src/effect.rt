@@ -1,11 +1,20 @@
 // What an instruction does, from the values of its operands. An effect names no scalar register and holds no memory.
 ghost use mathlib.Core.Path.{_≡_};
 ghost use Rattle.instruction.specs.Effect.{loadedEffect, loadedQuadEffect, branchEffect, effectOf};
-use crate::list::{Cond, Op};
-use crate::meaning::{alu, holds, unary};
-use crate::vectors::{lanes_of_quads, quad, to_four_words};
-use memory::access::{load, Loaded, Width};
-use memory::quad::{load_quad, LoadedQuad, Quad};
+use crate::list::Cond;
+use crate::list::Op;
+use crate::meaning::alu;
+use crate::meaning::holds;
+use crate::meaning::unary;
+use crate::vectors::lanes_of_quads;
+use crate::vectors::quad;
+use crate::vectors::to_four_words;
+use memory::access::Loaded;
+use memory::access::Width;
+use memory::access::load;
+use memory::quad::LoadedQuad;
+use memory::quad::Quad;
+use memory::quad::load_quad;
 use words::arithmetic::add;
 
 // Why a thread stopped before its end.
@@ -80,7 +89,10 @@ pub fn effect_of(op: Op, x: u32, y: u32, vectors: &[u32; 128], window: &[u8]) ->
         Op::Membar => Effect::Next,
         Op::Wfi => Effect::End,
         Op::Vector { op, ty, vd, v1, v2 } => {
-            Effect::PutQuad(vd, lanes_of_quads(op, ty, quad(vectors, v1), quad(vectors, v2)))
+            Effect::PutQuad(
+                vd,
+                lanes_of_quads(op, ty, quad(vectors, v1), quad(vectors, v2)),
+            )
         }
         Op::Vbcast { vd } => Effect::PutQuad(vd, to_four_words(x)),
         Op::Vextr { v1 } => Effect::Put(quad(vectors, v1).w0),

@@ -1,7 +1,7 @@
 // The instruction list: what each word stands for, and what each instruction does to values.
-pub mod list;
-mod rows;
 pub mod decode;
-pub mod meaning;
-pub mod vectors;
 pub mod effect;
+pub mod list;
+pub mod meaning;
+mod rows;
+pub mod vectors;

@@ -1,7 +1,8 @@
 // The types of the instruction list. An operation holds its immediates and vector register numbers;
 // the numbers of the scalar registers stand beside it, so that the same operation can run over any registers.
 use memory::access::Width;
-use words::lanes::{LaneOp, LaneType};
+use words::lanes::LaneOp;
+use words::lanes::LaneType;
 
 pub enum AluOp {
     Add,
@@ -45,11 +46,25 @@ pub enum Op {
     Store(Width, u32),
     Membar,
     Wfi,
-    Vector { op: LaneOp, ty: LaneType, vd: u32, v1: u32, v2: u32 },
-    Vbcast { vd: u32 },
-    Vextr { v1: u32 },
-    Vld { vd: u32 },
-    Vst { v2: u32 },
+    Vector {
+        op: LaneOp,
+        ty: LaneType,
+        vd: u32,
+        v1: u32,
+        v2: u32,
+    },
+    Vbcast {
+        vd: u32,
+    },
+    Vextr {
+        v1: u32,
+    },
+    Vld {
+        vd: u32,
+    },
+    Vst {
+        v2: u32,
+    },
     // A word that is not in the list.
     Unlisted,
 }

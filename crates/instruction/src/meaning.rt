@@ -1,7 +1,9 @@
 // What the operations give, on the values of their operands.
 ghost use mathlib.Core.Path.{_≡_};
 ghost use Rattle.instruction.specs.Meaning.{aluOf, unaryOf, holdsOf};
-use crate::list::{AluOp, Cond, UnaryOp};
+use crate::list::AluOp;
+use crate::list::Cond;
+use crate::list::UnaryOp;
 use words::arithmetic;
 use words::bitwise;
 use words::compare;

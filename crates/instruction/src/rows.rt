@@ -1,10 +1,13 @@
 // The rows of the instruction table, each on the fields that it names.
 ghost use mathlib.Core.Path.{_≡_};
 ghost use Rattle.instruction.specs.Rows.{plainRow, otherRow, productRow, countRow, scalarRow, immediateRow, branchRow, loadRow, storeRow, systemRow, laneRow, vectorRow, transferRow, vldRow, vstRow};
-
-use crate::list::{AluOp, Cond, Op, UnaryOp};
+use crate::list::AluOp;
+use crate::list::Cond;
+use crate::list::Op;
+use crate::list::UnaryOp;
 use memory::access::Width;
-use words::lanes::{LaneOp, LaneType};
+use words::lanes::LaneOp;
+use words::lanes::LaneType;
 
 fn plain_row(funct3: u32, rs2: u32) -> Op
     ensures { λ r. ⌜ r ≡ plainRow funct3 rs2 ⌝ }
@@ -147,9 +150,27 @@ fn lane_row(op: LaneOp, funct3: u32, vd: u32, v1: u32, v2: u32) -> Op
     ensures { λ r. ⌜ r ≡ laneRow op funct3 vd v1 v2 ⌝ }
 {
     match funct3 {
-        0 => Op::Vector { op, ty: LaneType::I32, vd, v1, v2 },
-        1 => Op::Vector { op, ty: LaneType::I16, vd, v1, v2 },
-        2 => Op::Vector { op, ty: LaneType::I8, vd, v1, v2 },
+        0 => Op::Vector {
+            op,
+            ty: LaneType::I32,
+            vd,
+            v1,
+            v2,
+        },
+        1 => Op::Vector {
+            op,
+            ty: LaneType::I16,
+            vd,
+            v1,
+            v2,
+        },
+        2 => Op::Vector {
+            op,
+            ty: LaneType::I8,
+            vd,
+            v1,
+            v2,
+        },
         _ => Op::Unlisted,
     }
 }

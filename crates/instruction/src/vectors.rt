@@ -3,7 +3,9 @@ ghost use mathlib.Core.Path.{_≡_};
 ghost use Prim.Native.Nat.{_%_};
 ghost use Rattle.instruction.specs.Vectors.{quadOf, withQuad, lanesOfQuads, broadcast};
 use memory::quad::Quad;
-use words::lanes::{lanes, LaneOp, LaneType};
+use words::lanes::LaneOp;
+use words::lanes::LaneType;
+use words::lanes::lanes;
 
 pub fn quad(vectors: &[u32; 128], n: u32) -> Quad
     ensures { λ r. ⌜ r ≡ quadOf (now (vectors .entry)) (n % 32) ⌝ }

@@ -2,3 +2,5 @@ pub mod Pack
 pub mod Registers
 pub mod Thread
 pub mod Step
+pub mod Run
+pub mod Dispatch

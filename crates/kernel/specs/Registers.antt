@@ -11,7 +11,8 @@ use Rattle.kernel.specs.declared.registers.Registers.{Registers}
 unfoldable pub startRegisters : ℕ → ℕ → ℕ → ℕ → Registers
 startRegisters group thread threads groups = record {
   scalars = set (set (set (set (replicate 32 0) 1 group) 2 thread) 3 threads) 4 groups;
-  vectors = replicate 128 0 }
+  vectors = replicate 128 0;
+}
 
 -- scalar register n; s0 always reads 0
 unfoldable pub scalarOf : Registers → ℕ → ℕ

@@ -67,10 +67,12 @@ applied length rd (Put x) t window = record { stepped = goesOn (written t rd x);
 applied length rd (PutQuad vd q) t window = record { stepped = goesOn (writtenVector t (vd % 32) q); window = window }
 applied length rd (Store width a x) t window = record {
   stepped = afterStore (reachOf (ListN.length window) a (bytesOf width)) t;
-  window = storeOf window width a x }
+  window = storeOf window width a x;
+}
 applied length rd (StoreQuad a q) t window = record {
   stepped = afterStore (reachOf (ListN.length window) a 16) t;
-  window = storeQuadOf window a q }
+  window = storeQuadOf window a q;
+}
 applied length rd (Go offset) t window = record { stepped = branched length offset t; window = window }
 applied length rd Next t window = record { stepped = goesOn t; window = window }
 applied length rd End t window = record { stepped = ends t; window = window }

@@ -15,8 +15,11 @@ impl Registers {
     pub const COUNT: u32 = 32;
     // The input registers: s1 group, s2 thread in the group, s3 threads in a group, s4 groups.
     pub const GROUP: usize = 1;
+
     pub const THREAD: usize = 2;
+
     pub const THREADS: usize = 3;
+
     pub const GROUPS: usize = 4;
 
     pub fn start(group: u32, thread: u32, threads: u32, groups: u32) -> Self

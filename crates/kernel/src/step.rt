@@ -5,7 +5,9 @@ ghost use Rattle.kernel.specs.Step.{Shows, stops, goesOn, ends, branched
 use crate::pack::Kernel;
 use crate::thread::Thread;
 use instruction::decode::decode;
-use instruction::effect::{effect_of, Effect, Stop};
+use instruction::effect::Effect;
+use instruction::effect::Stop;
+use instruction::effect::effect_of;
 use instruction::list::Instr;
 use memory::access::store;
 use memory::address::Reach;

@@ -2,8 +2,8 @@
 pub mod access;
 pub mod address;
 pub mod copy;
+pub mod peek;
 pub mod place;
 pub mod quad;
 pub mod rectangle;
 pub mod transfer;
-pub mod peek;

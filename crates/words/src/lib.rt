@@ -2,6 +2,7 @@
 pub mod arithmetic;
 pub mod bitwise;
 pub mod bytes;
+pub mod choice;
 pub mod compare;
 pub mod counts;
 pub mod fields;
@@ -10,4 +11,3 @@ pub mod lanes;
 pub mod lanes16;
 pub mod lanes8;
 pub mod signed;
-pub mod choice;

@@ -1,16 +1,13 @@
+-- `instruction::decode::if_unused` meets its contract. Assumes nothing.
 use Rattle.instruction.specs.Decode.{unusedIs0}
 use borrow.Author.Tests.{ne-eqb}
 use Rattle.instruction.proofs.decode.if_unused.Statement.{statement}
 use Rattle.instruction.proofs.decode.if_unused.Tie as tie
-use Rattle.instruction.proofs.decode.if_unused.Reads as reads
-use Rattle.instruction.proofs.decode.if_unused.Lts as lts
 
--- src/decode.rt:41:1
 returns : tie.Need-returns
 unfolding unusedIs0
 returns c = rw (c .if1 .taken)
 
--- src/decode.rt:41:1
 returns-2 : tie.Need-returns-2
 unfolding unusedIs0
 returns-2 c = simp (ne-eqb _ _ (c .if1 .left))

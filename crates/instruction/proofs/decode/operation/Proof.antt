@@ -1,3 +1,4 @@
+-- `instruction::decode::operation` meets its contract. Assumes nothing.
 use Rattle.instruction.specs.Decode.{opOf}
 use borrow.Author.Tests.{ne-eqb}
 use mathlib.Core.Path.{ap}
@@ -5,125 +6,87 @@ use Rattle.instruction.specs.declared.list.Op.the-variants.{Lui}
 use borrow.Author.Needs.{needs}
 use Rattle.instruction.proofs.decode.operation.Statement.{statement}
 use Rattle.instruction.proofs.decode.operation.Tie as tie
-use Rattle.instruction.proofs.decode.operation.Reads as reads
-use Rattle.instruction.proofs.decode.operation.Lts as lts
-use Rattle.instruction.proofs.decode.branch.Reads as branch-reads
-use Rattle.instruction.proofs.decode.immediate.Reads as immediate-reads
-use Rattle.instruction.proofs.decode.load.Reads as load-reads
-use Rattle.instruction.proofs.decode.scalar.Reads as scalar-reads
-use Rattle.instruction.proofs.decode.store.Reads as store-reads
-use Rattle.instruction.proofs.decode.transfer.Reads as transfer-reads
-use Rattle.instruction.proofs.decode.vector.Reads as vector-reads
-use Rattle.instruction.proofs.decode.vld.Reads as vld-reads
-use Rattle.instruction.proofs.decode.vst.Reads as vst-reads
-use Rattle.instruction.proofs.rows.system_row.Reads as system-row-reads
-use Rattle.words.proofs.fields.imm_u.Reads as imm-u-reads
-use Rattle.words.proofs.fields.opcode.Reads as opcode-reads
 
--- src/decode.rt:82:9
 opcode-requires : tie.Need-opcode-requires
 opcode-requires c κs = search needs
 
--- src/decode.rt:84:22
 scalar-requires : tie.Need-scalar-requires
 scalar-requires c κs = search needs
 
--- src/decode.rt:85:22
 immediate-requires : tie.Need-immediate-requires
 immediate-requires c κs = search needs
 
--- src/decode.rt:86:30
 imm-u-requires : tie.Need-imm-u-requires
 imm-u-requires c κs = search needs
 
--- src/decode.rt:87:22
 branch-requires : tie.Need-branch-requires
 branch-requires c κs = search needs
 
--- src/decode.rt:88:22
 load-requires : tie.Need-load-requires
 load-requires c κs = search needs
 
--- src/decode.rt:89:22
 store-requires : tie.Need-store-requires
 store-requires c κs = search needs
 
--- src/decode.rt:90:22
 system-row-requires : tie.Need-system-row-requires
 system-row-requires c κs = search needs
 
--- src/decode.rt:91:22
 vector-requires : tie.Need-vector-requires
 vector-requires c κs = search needs
 
--- src/decode.rt:92:22
 transfer-requires : tie.Need-transfer-requires
 transfer-requires c κs = search needs
 
--- src/decode.rt:93:22
 vld-requires : tie.Need-vld-requires
 vld-requires c κs = search needs
 
--- src/decode.rt:94:22
 vst-requires : tie.Need-vst-requires
 vst-requires c κs = search needs
 
--- src/decode.rt:79:1
 returns : tie.Need-returns
 unfolding opOf
 returns c = rw (← c .before .before .opcode .ensures, c .before .match .keys1) (c .scalar .ensures)
 
--- src/decode.rt:79:1
 returns-2 : tie.Need-returns-2
 unfolding opOf
 returns-2 c = rw (← c .before .before .opcode .ensures, c .before .match .keys2) (c .immediate .ensures)
 
--- src/decode.rt:79:1
 returns-3 : tie.Need-returns-3
 unfolding opOf
 returns-3 c = rw (← c .before .before .opcode .ensures, c .before .match .keys3) (ap Lui (c .imm-u .ensures))
 
--- src/decode.rt:79:1
 returns-4 : tie.Need-returns-4
 unfolding opOf
 returns-4 c = rw (← c .before .before .opcode .ensures, c .before .match .keys4) (c .branch .ensures)
 
--- src/decode.rt:79:1
 returns-5 : tie.Need-returns-5
 unfolding opOf
 returns-5 c = rw (← c .before .before .opcode .ensures, c .before .match .keys5) (c .load .ensures)
 
--- src/decode.rt:79:1
 returns-6 : tie.Need-returns-6
 unfolding opOf
 returns-6 c = rw (← c .before .before .opcode .ensures, c .before .match .keys6) (c .store .ensures)
 
--- src/decode.rt:79:1
 returns-7 : tie.Need-returns-7
 unfolding opOf
 returns-7 c = rw (← c .before .before .opcode .ensures, c .before .match .keys7) (c .system-row .ensures)
 
--- src/decode.rt:79:1
 returns-8 : tie.Need-returns-8
 unfolding opOf
 returns-8 c = rw (← c .before .before .opcode .ensures, c .before .match .keys8) (c .vector .ensures)
 
--- src/decode.rt:79:1
 returns-9 : tie.Need-returns-9
 unfolding opOf
 returns-9 c = rw (← c .before .before .opcode .ensures, c .before .match .keys9) (c .transfer .ensures)
 
--- src/decode.rt:79:1
 returns-10 : tie.Need-returns-10
 unfolding opOf
 returns-10 c = rw (← c .before .before .opcode .ensures, c .before .match .keys10) (c .vld .ensures)
 
--- src/decode.rt:79:1
 returns-11 : tie.Need-returns-11
 unfolding opOf
 returns-11 c = rw (← c .before .before .opcode .ensures, c .before .match .keys11) (c .vst .ensures)
 
--- src/decode.rt:79:1
 returns-12 : tie.Need-returns-12
 unfolding opOf
 returns-12 c = simp (← c .before .opcode .ensures, ne-eqb _ _ (c .match .rest .0 .0 .0 .0 .0 .0 .0 .0 .0 .0 .1), ne-eqb _ _ (c .match .rest .0 .0 .0 .0 .0 .0 .0 .0 .0 .1), ne-eqb _ _ (c .match .rest .0 .0 .0 .0 .0 .0 .0 .0 .1), ne-eqb _ _ (c .match .rest .0 .0 .0 .0 .0 .0 .0 .1), ne-eqb _ _ (c .match .rest .0 .0 .0 .0 .0 .0 .1), ne-eqb _ _ (c .match .rest .0 .0 .0 .0 .0 .1), ne-eqb _ _ (c .match .rest .0 .0 .0 .0 .1), ne-eqb _ _ (c .match .rest .0 .0 .0 .1), ne-eqb _ _ (c .match .rest .0 .0 .1), ne-eqb _ _ (c .match .rest .0 .1), ne-eqb _ _ (c .match .rest .1))

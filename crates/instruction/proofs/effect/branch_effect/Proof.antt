@@ -1,21 +1,16 @@
+-- `instruction::effect::branch_effect` meets its contract. Assumes nothing.
 use Rattle.instruction.specs.Effect.{branchEffect}
 use borrow.Author.Needs.{needs}
 use Rattle.instruction.proofs.effect.branch_effect.Statement.{statement}
 use Rattle.instruction.proofs.effect.branch_effect.Tie as tie
-use Rattle.instruction.proofs.effect.branch_effect.Reads as reads
-use Rattle.instruction.proofs.effect.branch_effect.Lts as lts
-use Rattle.instruction.proofs.meaning.holds.Reads as holds-reads
 
--- src/effect.rt:61:8
 holds-requires : tie.Need-holds-requires
 holds-requires c κs = search needs
 
--- src/effect.rt:58:1
 returns : tie.Need-returns
 unfolding branchEffect
 returns c = rw (← c .before .holds .ensures, c .if1 .taken)
 
--- src/effect.rt:58:1
 returns-2 : tie.Need-returns-2
 unfolding branchEffect
 returns-2 c = rw (← c .before .holds .ensures, c .if1 .left)

@@ -1,24 +1,19 @@
+-- `instruction::effect::loaded_quad_effect` meets its contract. Assumes nothing.
 use Rattle.instruction.specs.Effect.{loadedQuadEffect}
 use borrow.Author.Needs.{needs}
 use Rattle.instruction.proofs.effect.loaded_quad_effect.Statement.{statement}
 use Rattle.instruction.proofs.effect.loaded_quad_effect.Tie as tie
-use Rattle.instruction.proofs.effect.loaded_quad_effect.Reads as reads
-use Rattle.instruction.proofs.effect.loaded_quad_effect.Lts as lts
 
--- src/effect.rt:53:27
 enum-known-loaded : tie.Need-enum-known-loaded
 enum-known-loaded c = search needs
 
--- src/effect.rt:54:45
 enum-told : tie.Need-enum-told
 enum-told c = search needs
 
--- src/effect.rt:49:1
 returns : tie.Need-returns
 unfolding loadedQuadEffect
 returns c = rw (c .before .loaded .given .1)
 
--- src/effect.rt:49:1
 returns-2 : tie.Need-returns-2
 unfolding loadedQuadEffect
 returns-2 c = rw (c .enum-told .given .1)

@@ -1,90 +1,65 @@
+-- `instruction::meaning::holds` meets its contract. Assumes nothing.
 use Rattle.instruction.specs.Meaning.{holdsOf}
 use borrow.Author.Needs.{needs}
 use Rattle.instruction.proofs.meaning.holds.Statement.{statement}
 use Rattle.instruction.proofs.meaning.holds.Tie as tie
-use Rattle.instruction.proofs.meaning.holds.Reads as reads
-use Rattle.instruction.proofs.meaning.holds.Lts as lts
-use Rattle.words.proofs.compare.at_least.Reads as at-least-reads
-use Rattle.words.proofs.compare.at_least_signed.Reads as at-least-signed-reads
-use Rattle.words.proofs.compare.below.Reads as below-reads
-use Rattle.words.proofs.compare.equal.Reads as equal-reads
-use Rattle.words.proofs.compare.not_equal.Reads as not-equal-reads
-use Rattle.words.proofs.signed.below_signed.Reads as below-signed-reads
 
--- src/meaning.rt:43:21
 enum-told : tie.Need-enum-told
 enum-told c = search needs
 
--- src/meaning.rt:43:21
 equal-requires : tie.Need-equal-requires
 equal-requires c κs = search needs
 
--- src/meaning.rt:44:21
 enum-told-2 : tie.Need-enum-told-2
 enum-told-2 c = search needs
 
--- src/meaning.rt:44:21
 not-equal-requires : tie.Need-not-equal-requires
 not-equal-requires c κs = search needs
 
--- src/meaning.rt:45:21
 enum-told-3 : tie.Need-enum-told-3
 enum-told-3 c = search needs
 
--- src/meaning.rt:45:21
 below-signed-requires : tie.Need-below-signed-requires
 below-signed-requires c κs = search needs
 
--- src/meaning.rt:46:21
 enum-told-4 : tie.Need-enum-told-4
 enum-told-4 c = search needs
 
--- src/meaning.rt:46:21
 at-least-signed-requires : tie.Need-at-least-signed-requires
 at-least-signed-requires c κs = search needs
 
--- src/meaning.rt:47:22
 enum-told-5 : tie.Need-enum-told-5
 enum-told-5 c = search needs
 
--- src/meaning.rt:47:22
 below-requires : tie.Need-below-requires
 below-requires c κs = search needs
 
--- src/meaning.rt:48:22
 enum-told-6 : tie.Need-enum-told-6
 enum-told-6 c = search needs
 
--- src/meaning.rt:48:22
 at-least-requires : tie.Need-at-least-requires
 at-least-requires c κs = search needs
 
--- src/meaning.rt:39:1
 returns : tie.Need-returns
 unfolding holdsOf
 returns c = rw (c .before .enum-told .given .1, c .equal .ensures)
 
--- src/meaning.rt:39:1
 returns-2 : tie.Need-returns-2
 unfolding holdsOf
 returns-2 c = rw (c .before .enum-told2 .given .1, c .not-equal .ensures)
 
--- src/meaning.rt:39:1
 returns-3 : tie.Need-returns-3
 unfolding holdsOf
 returns-3 c = rw (c .before .enum-told3 .given .1, c .below-signed .ensures)
 
--- src/meaning.rt:39:1
 returns-4 : tie.Need-returns-4
 unfolding holdsOf
 returns-4 c = rw (c .before .enum-told4 .given .1, c .at-least-signed .ensures)
 
--- src/meaning.rt:39:1
 returns-5 : tie.Need-returns-5
 unfolding holdsOf
 returns-5 c = rw (c .before .enum-told5 .given .1, c .below .ensures)
 
--- src/meaning.rt:39:1
 returns-6 : tie.Need-returns-6
 unfolding holdsOf
 returns-6 c = rw (c .before .enum-told6 .given .1, c .at-least .ensures)

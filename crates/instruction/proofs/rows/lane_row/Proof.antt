@@ -1,26 +1,21 @@
+-- `instruction::rows::lane_row` meets its contract. Assumes nothing.
 use Rattle.instruction.specs.Rows.{laneRow}
 use borrow.Author.Tests.{ne-eqb}
 use Rattle.instruction.proofs.rows.lane_row.Statement.{statement}
 use Rattle.instruction.proofs.rows.lane_row.Tie as tie
-use Rattle.instruction.proofs.rows.lane_row.Reads as reads
-use Rattle.instruction.proofs.rows.lane_row.Lts as lts
 
--- src/rows.rt:146:1
 returns : tie.Need-returns
 unfolding laneRow
 returns c = rw (c .match .keys1)
 
--- src/rows.rt:146:1
 returns-2 : tie.Need-returns-2
 unfolding laneRow
 returns-2 c = rw (c .match .keys2)
 
--- src/rows.rt:146:1
 returns-3 : tie.Need-returns-3
 unfolding laneRow
 returns-3 c = rw (c .match .keys3)
 
--- src/rows.rt:146:1
 returns-4 : tie.Need-returns-4
 unfolding laneRow
 returns-4 c = simp (ne-eqb _ _ (c .match .rest .0 .0 .1), ne-eqb _ _ (c .match .rest .0 .1), ne-eqb _ _ (c .match .rest .1))

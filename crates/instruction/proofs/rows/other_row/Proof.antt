@@ -1,21 +1,17 @@
+-- `instruction::rows::other_row` meets its contract. Assumes nothing.
 use Rattle.instruction.specs.Rows.{otherRow}
 use borrow.Author.Tests.{ne-eqb}
 use Rattle.instruction.proofs.rows.other_row.Statement.{statement}
 use Rattle.instruction.proofs.rows.other_row.Tie as tie
-use Rattle.instruction.proofs.rows.other_row.Reads as reads
-use Rattle.instruction.proofs.rows.other_row.Lts as lts
 
--- src/rows.rt:31:1
 returns : tie.Need-returns
 unfolding otherRow
 returns c = rw (c .match .keys1)
 
--- src/rows.rt:31:1
 returns-2 : tie.Need-returns-2
 unfolding otherRow
 returns-2 c = rw (c .match .keys2)
 
--- src/rows.rt:31:1
 returns-3 : tie.Need-returns-3
 unfolding otherRow
 returns-3 c = simp (ne-eqb _ _ (c .match .rest .0 .1), ne-eqb _ _ (c .match .rest .1))

@@ -1,16 +1,13 @@
+-- `instruction::rows::product_row` meets its contract. Assumes nothing.
 use Rattle.instruction.specs.Rows.{productRow}
 use borrow.Author.Tests.{ne-eqb}
 use Rattle.instruction.proofs.rows.product_row.Statement.{statement}
 use Rattle.instruction.proofs.rows.product_row.Tie as tie
-use Rattle.instruction.proofs.rows.product_row.Reads as reads
-use Rattle.instruction.proofs.rows.product_row.Lts as lts
 
--- src/rows.rt:41:1
 returns : tie.Need-returns
 unfolding productRow
 returns c = rw (c .match .keys1)
 
--- src/rows.rt:41:1
 returns-2 : tie.Need-returns-2
 unfolding productRow
 returns-2 c = simp (ne-eqb _ _ (c .match .rest .1))

@@ -1,21 +1,17 @@
+-- `instruction::rows::transfer_row` meets its contract. Assumes nothing.
 use Rattle.instruction.specs.Rows.{transferRow}
 use borrow.Author.Tests.{ne-eqb}
 use Rattle.instruction.proofs.rows.transfer_row.Statement.{statement}
 use Rattle.instruction.proofs.rows.transfer_row.Tie as tie
-use Rattle.instruction.proofs.rows.transfer_row.Reads as reads
-use Rattle.instruction.proofs.rows.transfer_row.Lts as lts
 
--- src/rows.rt:171:1
 returns : tie.Need-returns
 unfolding transferRow
 returns c = rw (c .match .keys1)
 
--- src/rows.rt:171:1
 returns-2 : tie.Need-returns-2
 unfolding transferRow
 returns-2 c = rw (c .match .keys2)
 
--- src/rows.rt:171:1
 returns-3 : tie.Need-returns-3
 unfolding transferRow
 returns-3 c = simp (ne-eqb _ _ (c .match .rest .0 .1), ne-eqb _ _ (c .match .rest .1))

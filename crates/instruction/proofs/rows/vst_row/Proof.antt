@@ -1,16 +1,13 @@
+-- `instruction::rows::vst_row` meets its contract. Assumes nothing.
 use Rattle.instruction.specs.Rows.{vstRow}
 use borrow.Author.Tests.{ne-eqb}
 use Rattle.instruction.proofs.rows.vst_row.Statement.{statement}
 use Rattle.instruction.proofs.rows.vst_row.Tie as tie
-use Rattle.instruction.proofs.rows.vst_row.Reads as reads
-use Rattle.instruction.proofs.rows.vst_row.Lts as lts
 
--- src/rows.rt:190:1
 returns : tie.Need-returns
 unfolding vstRow
 returns c = rw (c .match .keys1)
 
--- src/rows.rt:190:1
 returns-2 : tie.Need-returns-2
 unfolding vstRow
 returns-2 c = simp (ne-eqb _ _ (c .match .rest .1))

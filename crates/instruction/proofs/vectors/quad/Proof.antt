@@ -1,64 +1,49 @@
+-- `instruction::vectors::quad` meets its contract. Assumes nothing.
 use Rattle.instruction.specs.Vectors.{quadOf}
 use mathlib.Core.Path.{refl}
 use borrow.Author.Needs.{needs}
 use Rattle.instruction.proofs.vectors.quad.Statement.{statement}
 use Rattle.instruction.proofs.vectors.quad.Tie as tie
-use Rattle.instruction.proofs.vectors.quad.Reads as reads
-use Rattle.instruction.proofs.vectors.quad.Lts as lts
 
--- src/vectors.rt:11:14
 cast-at : tie.Need-cast-at
 cast-at c = search needs
 
--- src/vectors.rt:11:14
 mul-at : tie.Need-mul-at
 mul-at c = search needs
 
--- src/vectors.rt:13:13
 mul-t5 : tie.Need-mul-t5
 mul-t5 c = search needs
 
--- src/vectors.rt:13:13
 element-copy-out-t4 : tie.Need-element-copy-out-t4
 element-copy-out-t4 c = search needs
 
--- src/vectors.rt:14:21
 add-t8 : tie.Need-add-t8
 add-t8 c = search needs
 
--- src/vectors.rt:14:13
 mul-t9 : tie.Need-mul-t9
 mul-t9 c = search needs
 
--- src/vectors.rt:14:13
 element-copy-out-t12 : tie.Need-element-copy-out-t12
 element-copy-out-t12 c = search needs
 
--- src/vectors.rt:15:21
 add-t13 : tie.Need-add-t13
 add-t13 c = search needs
 
--- src/vectors.rt:15:13
 mul-t14 : tie.Need-mul-t14
 mul-t14 c = search needs
 
--- src/vectors.rt:15:13
 element-copy-out-t17 : tie.Need-element-copy-out-t17
 element-copy-out-t17 c = search needs
 
--- src/vectors.rt:16:21
 add-t18 : tie.Need-add-t18
 add-t18 c = search needs
 
--- src/vectors.rt:16:13
 mul-t19 : tie.Need-mul-t19
 mul-t19 c = search needs
 
--- src/vectors.rt:16:13
 element-copy-out-t22 : tie.Need-element-copy-out-t22
 element-copy-out-t22 c = search needs
 
--- src/vectors.rt:8:1
 returns : tie.Need-returns
 unfolding quadOf
 returns c = refl

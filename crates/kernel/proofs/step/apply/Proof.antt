@@ -1,137 +1,111 @@
+-- `kernel::step::apply` meets its contract. Assumes nothing.
+use Rattle.kernel.specs.Step.{applied}
+use Rattle.kernel.specs.Thread.{written, writtenVector}
+use mathlib.Core.Path.{refl}
+use native.Mathlib.Nat.{mod-eq-of-lt}
 use borrow.Author.Needs.{needs}
 use Rattle.kernel.proofs.step.apply.Statement.{statement}
 use Rattle.kernel.proofs.step.apply.Tie as tie
-use Rattle.kernel.proofs.step.apply.Reads as reads
-use Rattle.kernel.proofs.step.apply.Lts as lts
-use Rattle.kernel.proofs.step.after_store.Reads as after-store-reads
-use Rattle.kernel.proofs.step.branch.Reads as branch-reads
-use Rattle.kernel.proofs.step.end.Reads as end-reads
-use Rattle.kernel.proofs.step.go_on.Reads as go-on-reads
-use Rattle.kernel.proofs.step.stop.Reads as stop-reads
-use Rattle.kernel.proofs.thread.Thread.write.Reads as write-reads
-use Rattle.kernel.proofs.thread.Thread.write_vector.Reads as write-vector-reads
-use Rattle.memory.proofs.access.store.Reads as store-reads
-use Rattle.memory.proofs.quad.store_quad.Reads as store-quad-reads
 
--- src/step.rt:87:21
 enum-known-effect : tie.Need-enum-known-effect
 enum-known-effect c = search needs
 
--- src/step.rt:87:33
 write-requires : tie.Need-write-requires
 write-requires c κs = search needs
 
--- src/step.rt:87:27
 go-on-requires : tie.Need-go-on-requires
-go-on-requires c κs = ?
+unfolding written
+go-on-requires c κs = rw (c .write .ensures) (c .before .before .before .before .before .pre .0)
 
--- src/step.rt:88:25
 enum-known-effect-2 : tie.Need-enum-known-effect-2
 enum-known-effect-2 c = search needs
 
--- src/step.rt:88:41
 write-vector-requires : tie.Need-write-vector-requires
 write-vector-requires c κs = search needs
 
--- src/step.rt:88:35
 go-on-requires-2 : tie.Need-go-on-requires-2
-go-on-requires-2 c κs = ?
+unfolding writtenVector
+go-on-requires-2 c κs = rw (c .write-vector .ensures) (c .before .before .before .before .before .pre .0)
 
--- src/step.rt:89:23
 enum-known-effect-3 : tie.Need-enum-known-effect-3
 enum-known-effect-3 c = search needs
 
--- src/step.rt:89:65
 store-requires : tie.Need-store-requires
 store-requires c κs = search needs
 
--- src/step.rt:89:45
 after-store-requires : tie.Need-after-store-requires
 after-store-requires c κs = search needs
 
--- src/step.rt:90:27
 enum-known-effect-4 : tie.Need-enum-known-effect-4
 enum-known-effect-4 c = search needs
 
--- src/step.rt:90:62
 store-quad-requires : tie.Need-store-quad-requires
 store-quad-requires c κs = search needs
 
--- src/step.rt:90:42
 after-store-requires-2 : tie.Need-after-store-requires-2
 after-store-requires-2 c κs = search needs
 
--- src/step.rt:91:20
 enum-known-effect-5 : tie.Need-enum-known-effect-5
 enum-known-effect-5 c = search needs
 
--- src/step.rt:91:31
 branch-requires : tie.Need-branch-requires
 branch-requires c κs = search needs
 
--- src/step.rt:92:25
 enum-told : tie.Need-enum-told
 enum-told c = search needs
 
--- src/step.rt:92:25
 go-on-requires-3 : tie.Need-go-on-requires-3
 go-on-requires-3 c κs = search needs
 
--- src/step.rt:93:24
 enum-told-2 : tie.Need-enum-told-2
 enum-told-2 c = search needs
 
--- src/step.rt:93:24
 end-requires : tie.Need-end-requires
 end-requires c κs = search needs
 
--- src/step.rt:94:22
 enum-known-effect-6 : tie.Need-enum-known-effect-6
 enum-known-effect-6 c = search needs
 
--- src/step.rt:94:30
 stop-requires : tie.Need-stop-requires
 stop-requires c κs = search needs
 
--- src/step.rt:82:1
 returns : tie.Need-returns
-returns c = ?
+unfolding applied
+returns c = rw (c .before .before .before .effect .given .1) (record { answer = rw (c .go-on .ensures, c .before .write .ensures, mod-eq-of-lt (c .before .before .before .before .before .before .pre .1)); memory = refl })
 
--- src/step.rt:82:1
 returns-2 : tie.Need-returns-2
-returns-2 c = ?
+unfolding applied
+returns-2 c = rw (c .before .before .before .effect2 .given .1) (record { answer = rw (c .go-on2 .ensures, c .before .write-vector .ensures); memory = refl })
 
--- src/step.rt:82:1
 same-length : tie.Need-same-length
 same-length c = search needs
 
--- src/step.rt:82:1
 returns-3 : tie.Need-returns-3
-returns-3 c = ?
+unfolding applied
+returns-3 c = rw (c .before .before .before .before .before .before .effect3 .given .1) (record { answer = rw (c .after-store .ensures, c .before .before .before .store .ensures .0); memory = c .before .before .before .store .ensures .1 })
 
--- src/step.rt:82:1
 same-length-2 : tie.Need-same-length-2
 same-length-2 c = search needs
 
--- src/step.rt:82:1
 returns-4 : tie.Need-returns-4
-returns-4 c = ?
+unfolding applied
+returns-4 c = rw (c .before .before .before .before .before .before .effect4 .given .1) (record { answer = rw (c .after-store2 .ensures, c .before .before .before .store-quad .ensures .0); memory = c .before .before .before .store-quad .ensures .1 })
 
--- src/step.rt:82:1
 returns-5 : tie.Need-returns-5
-returns-5 c = ?
+unfolding applied
+returns-5 c = rw (c .before .before .effect5 .given .1) (record { answer = c .branch .ensures; memory = refl })
 
--- src/step.rt:82:1
 returns-6 : tie.Need-returns-6
-returns-6 c = ?
+unfolding applied
+returns-6 c = rw (c .before .enum-told .given .1) (record { answer = c .go-on3 .ensures; memory = refl })
 
--- src/step.rt:82:1
 returns-7 : tie.Need-returns-7
-returns-7 c = ?
+unfolding applied
+returns-7 c = rw (c .before .enum-told2 .given .1) (record { answer = c .end .ensures; memory = refl })
 
--- src/step.rt:82:1
 returns-8 : tie.Need-returns-8
-returns-8 c = ?
+unfolding applied
+returns-8 c = rw (c .before .before .effect6 .given .1) (record { answer = c .stop .ensures; memory = refl })
 
 pub apply-spec : {M : Type 1} → statement M
 apply-spec =

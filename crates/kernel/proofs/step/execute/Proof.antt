@@ -1,35 +1,38 @@
+-- `kernel::step::execute` meets its contract. Assumes nothing.
+use Rattle.kernel.specs.Step.{executed}
+use Rattle.kernel.specs.Registers.{scalarOf}
+use mathlib.Core.Path.{_≡_}
+use denote.Ref.{now}
+use native.Mathlib.Nat.{mod-eq-of-lt}
+use Rattle.instruction.specs.Effect.{effectOf}
 use borrow.Author.Needs.{needs}
 use Rattle.kernel.proofs.step.execute.Statement.{statement}
 use Rattle.kernel.proofs.step.execute.Tie as tie
-use Rattle.kernel.proofs.step.execute.Reads as reads
-use Rattle.kernel.proofs.step.execute.Lts as lts
-use Rattle.instruction.proofs.effect.effect_of.Reads as effect-of-reads
-use Rattle.kernel.proofs.step.apply.Reads as apply-reads
-use Rattle.kernel.proofs.thread.Thread.read.Reads as read-reads
 
--- src/step.rt:102:9
 read-requires : tie.Need-read-requires
 read-requires c κs = search needs
 
--- src/step.rt:103:9
 read-requires-2 : tie.Need-read-requires-2
 read-requires-2 c κs = search needs
 
--- src/step.rt:107:9
 effect-of-requires : tie.Need-effect-of-requires
 effect-of-requires c κs = search needs
 
--- src/step.rt:108:5
 apply-requires : tie.Need-apply-requires
 apply-requires c κs = search needs
 
--- src/step.rt:98:1
 same-length : tie.Need-same-length
 same-length c = search needs
 
--- src/step.rt:98:1
 returns : tie.Need-returns
-returns c = ?
+unfolding executed
+returns c =
+    let s = c .before .before .before .before .before .before .before .before .before .before .before .before in
+    let i = s .args .instr in
+    let file = s .args .thread .registers in
+    let same : c .before .before .before .before .effect-of .result ≡ effectOf (i .op) (scalarOf file (i .rs1)) (scalarOf file (i .rs2)) (file .vectors) (now (s .args .window)) =
+    cc (mod-eq-of-lt (s .pre .2), mod-eq-of-lt (s .pre .3)) in
+    rw (← same) (c .before .before .apply .ensures)
 
 pub execute-spec : {M : Type 1} → statement M
 execute-spec =

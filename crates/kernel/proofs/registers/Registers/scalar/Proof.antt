@@ -1,29 +1,23 @@
+-- `kernel::registers::Registers::scalar` meets its contract. Assumes nothing.
 use Rattle.kernel.specs.Registers.{scalarOf}
 use borrow.Author.Tests.{ne-eqb}
 use borrow.Author.Needs.{needs}
 use Rattle.kernel.proofs.registers.Registers.scalar.Statement.{statement}
 use Rattle.kernel.proofs.registers.Registers.scalar.Tie as tie
-use Rattle.kernel.proofs.registers.Registers.scalar.Reads as reads
-use Rattle.kernel.proofs.registers.Registers.scalar.Lts as lts
 
--- src/registers.rt:38:18
 cast-at : tie.Need-cast-at
 cast-at c = search needs
 
--- src/registers.rt:39:33
 mul-result : tie.Need-mul-result
 mul-result c = search needs
 
--- src/registers.rt:39:33
 element-copy-out-result : tie.Need-element-copy-out-result
 element-copy-out-result c = search needs
 
--- src/registers.rt:35:5
 returns : tie.Need-returns
 unfolding scalarOf
 returns c = rw (c .if1 .taken)
 
--- src/registers.rt:35:5
 returns-2 : tie.Need-returns-2
 unfolding scalarOf
 returns-2 c = simp (ne-eqb _ _ (c .before .if1 .left))

@@ -1,28 +1,22 @@
+-- `kernel::registers::Registers::start` meets its contract. Assumes nothing.
 use Rattle.kernel.specs.Registers.{startRegisters}
 use mathlib.Core.Path.{refl}
 use borrow.Author.Needs.{needs}
 use Rattle.kernel.proofs.registers.Registers.start.Statement.{statement}
 use Rattle.kernel.proofs.registers.Registers.start.Tie as tie
-use Rattle.kernel.proofs.registers.Registers.start.Reads as reads
-use Rattle.kernel.proofs.registers.Registers.start.Lts as lts
 
--- src/registers.rt:25:9
 array-write-scalars : tie.Need-array-write-scalars
 array-write-scalars c = search needs
 
--- src/registers.rt:26:9
 array-write-scalars-2 : tie.Need-array-write-scalars-2
 array-write-scalars-2 c = search needs
 
--- src/registers.rt:27:9
 array-write-scalars-3 : tie.Need-array-write-scalars-3
 array-write-scalars-3 c = search needs
 
--- src/registers.rt:28:9
 array-write-scalars-4 : tie.Need-array-write-scalars-4
 array-write-scalars-4 c = search needs
 
--- src/registers.rt:21:5
 returns : tie.Need-returns
 unfolding startRegisters
 returns c = refl

@@ -1,24 +1,19 @@
+-- `kernel::registers::Registers::with_scalar` meets its contract. Assumes nothing.
 use Rattle.kernel.specs.Registers.{withScalar}
 use native.Mathlib.Nat.{mod-eq-of-lt}
 use borrow.Author.Needs.{needs}
 use Rattle.kernel.proofs.registers.Registers.with_scalar.Statement.{statement}
 use Rattle.kernel.proofs.registers.Registers.with_scalar.Tie as tie
-use Rattle.kernel.proofs.registers.Registers.with_scalar.Reads as reads
-use Rattle.kernel.proofs.registers.Registers.with_scalar.Lts as lts
 
--- src/registers.rt:45:18
 cast-at : tie.Need-cast-at
 cast-at c = search needs
 
--- src/registers.rt:46:9
 mul-self : tie.Need-mul-self
 mul-self c = search needs
 
--- src/registers.rt:46:9
 element-write-self : tie.Need-element-write-self
 element-write-self c = search needs
 
--- src/registers.rt:42:5
 returns : tie.Need-returns
 unfolding withScalar
 returns c = rw (mod-eq-of-lt (c .fits .value .fits))

@@ -1,0 +1,4 @@
+pub mod Settled
+pub mod Runs
+pub mod Dispatches
+pub mod Packs

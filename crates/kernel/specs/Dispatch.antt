@@ -1,0 +1,59 @@
+-- A dispatch: its threads one after another, group 0 thread 0 first, each to its end.
+use Prim.Native.Nat.{ℕ, _*_, _/_, _%_}
+use mathlib.Core.Path.{_≡_}
+use mathlib.Core.List.{List}
+use Rattle.memory.specs.After.{after}
+use Rattle.kernel.specs.declared.pack.Kernel.{Kernel}
+use Rattle.kernel.specs.declared.step.Progress.{Progress}
+use Rattle.kernel.specs.declared.step.Progress.the-variants.{Running, Ended, Stopped}
+use Rattle.kernel.specs.declared.dispatch.Ran.{Ran}
+use Rattle.kernel.specs.declared.dispatch.Ran.the-variants.{Done, Stopped as StoppedFor}
+use Rattle.kernel.specs.Pack.{kernelOf}
+use Rattle.kernel.specs.Thread.{started}
+use Rattle.kernel.specs.Step.{State}
+use Rattle.kernel.specs.Run.{runOf}
+
+-- what became of a dispatch, and the window it leaves
+pub record Dispatched : Type 0 where
+  pub ran : Ran
+  pub window : List ℕ
+
+-- what a function returns and leaves in the window is this
+pub record ShowsRan (r : Ran) (window : List ℕ) (d : Dispatched) : Type 0 where
+  pub answer : r ≡ d .ran
+  pub memory : window ≡ d .window
+
+-- what a thread's progress means for its dispatch
+unfoldable pub ranOf : Progress → Ran
+ranOf Running = Done
+ranOf Ended = Done
+ranOf (Stopped why) = StoppedFor why
+
+unfoldable pub shown : State → Dispatched
+shown s = record { ran = ranOf (s .stepped .progress); window = s .window }
+
+-- the first of two while no thread has stopped, else the second
+unfoldable pub ifDone : {A : Type 0} → Ran → A → A → A
+ifDone Done x y = x
+ifDone (StoppedFor why) x y = y
+
+-- thread i of the dispatch is thread i % threads of group i / threads
+unfoldable pub threadOf : ℕ → List ℕ → Kernel → ℕ → ℕ → ℕ → List ℕ → Dispatched
+threadOf limit pack kernel groups threads i window =
+    shown (runOf limit pack kernel (started (i / threads) (i % threads) threads groups) window)
+
+-- one thread more; a stop ends the whole dispatch
+unfoldable pub threadMore : ℕ → List ℕ → Kernel → ℕ → ℕ → ℕ → Dispatched → Dispatched
+threadMore limit pack kernel groups threads i d = ifDone (d .ran) (threadOf limit pack kernel groups threads i (d .window)) d
+
+-- a dispatch of which no thread has stopped
+abbrev pub going : List ℕ → Dispatched
+going window = record { ran = Done; window = window }
+
+-- n threads one after another
+unfoldable pub threadsOf : ℕ → ℕ → List ℕ → Kernel → ℕ → ℕ → List ℕ → Dispatched
+threadsOf n limit pack kernel groups threads window = after (threadMore limit pack kernel groups threads) n (going window)
+
+-- groups · threads threads of kernel k
+unfoldable pub dispatchOf : ℕ → List ℕ → ℕ → ℕ → ℕ → List ℕ → Dispatched
+dispatchOf limit pack k groups threads window = threadsOf (groups * threads) limit pack (kernelOf pack k) groups threads window

@@ -1,0 +1,72 @@
+// A dispatch: its threads one after another, group 0 thread 0 first, each to its end.
+ghost use mathlib.Core.Path.{_≡_};
+ghost use Prim.Native.Nat.{_*_, _^_, _<_};
+ghost use Rattle.kernel.specs.Dispatch.{ShowsRan, ranOf, threadOf, dispatchOf};
+use crate::pack::Kernel;
+use crate::pack::kernel_at;
+use crate::run::run;
+use crate::step::Progress;
+use crate::thread::Thread;
+use instruction::effect::Stop;
+
+pub enum Ran {
+    // Each thread came to its end.
+    Done,
+    // A thread stopped, and no thread after it ran.
+    Stopped(Stop),
+}
+
+fn ran_of(progress: Progress) -> Ran
+    ensures { λ r. ⌜ r ≡ ranOf progress ⌝ }
+{
+    match progress {
+        Progress::Running => Ran::Done,
+        Progress::Ended => Ran::Done,
+        Progress::Stopped(why) => Ran::Stopped(why),
+    }
+}
+
+// Thread i of the dispatch, run on the window to its end or first stop.
+fn run_thread(
+    pack: &[u8],
+    kernel: Kernel,
+    groups: u32,
+    threads: u32,
+    i: u64,
+    limit: u32,
+    window: &mut [u8],
+) -> Ran
+    requires { ⌜ (kernel .start < 2 ^ 62) × (i < groups * threads) ⌝ }
+    ensures { λ r. ⌜ ShowsRan r (now (window .exit)) (threadOf limit (now (pack .entry)) kernel groups threads i (now (window .entry))) ⌝ }
+{
+    let group = (i / threads as u64) as u32;
+    let place = (i % threads as u64) as u32;
+    let thread = Thread::start(group, place, threads, groups);
+    let end = run(thread, pack, kernel, window, limit);
+    let progress = end.progress;
+    ran_of(progress)
+}
+
+pub fn dispatch(
+    pack: &[u8],
+    k: u32,
+    groups: u32,
+    threads: u32,
+    limit: u32,
+    window: &mut [u8],
+) -> Ran
+    ensures { λ r. ⌜ ShowsRan r (now (window .exit)) (dispatchOf limit (now (pack .entry)) k groups threads (now (window .entry))) ⌝ }
+{
+    let kernel = kernel_at(pack, k);
+    let count = groups as u64 * threads as u64;
+    let mut i: u64 = 0;
+    while i < count {
+        let ran = run_thread(pack, kernel, groups, threads, i, limit, window);
+        match ran {
+            Ran::Done => {}
+            Ran::Stopped(why) => return Ran::Stopped(why),
+        }
+        i += 1;
+    }
+    Ran::Done
+}
