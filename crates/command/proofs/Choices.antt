@@ -3,6 +3,7 @@
 use mathlib.Core.Path.{_≡_, refl}
 use mathlib.Core.Bool.{Bool, true, false, cond, _&&_, _||_}
 use Prim.Native.Nat.{ℕ, _≤_}
+use Rattle.command.specs.Choice.{either}
 
 pub cond-le : (b : Bool) {x y n : ℕ} → x ≤ n → y ≤ n → cond b x y ≤ n
 cond-le true hx hy = hx
@@ -25,3 +26,13 @@ neither-left false b e = refl
 pub neither-right : (a b : Bool) → (a || b) ≡ false → b ≡ false
 neither-right true b e = cc
 neither-right false b e = e
+
+-- a chain of tests gives what stands at the first that holds
+module _ {A : Type 0} where
+  pub chosen : (b : Bool) (x y : A) → b ≡ true → x ≡ either b x y
+  unfolding either
+  chosen b x y e = rw e
+
+  pub passed : (b : Bool) (x y : A) {z : A} → b ≡ false → z ≡ y → z ≡ either b x y
+  unfolding either
+  passed b x y e h = rw e h
