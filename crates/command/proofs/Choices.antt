@@ -29,9 +29,9 @@ neither-right false b e = e
 
 -- a chain of tests gives what stands at the first that holds
 module _ {A : Type 0} where
-  pub chosen : (b : Bool) (x y : A) → b ≡ true → x ≡ either b x y
+  pub chosen : (b : Bool) (x y : A) {z : A} → b ≡ true → z ≡ x → z ≡ either b x y
   unfolding either
-  chosen b x y e = rw e
+  chosen b x y e h = rw e h
 
   pub passed : (b : Bool) (x y : A) {z : A} → b ≡ false → z ≡ y → z ≡ either b x y
   unfolding either

@@ -4,3 +4,4 @@ pub mod Entries
 pub mod Outcomes
 pub mod Sizes
 pub mod Agree
+pub mod Shapes

@@ -7,3 +7,5 @@ pub mod Header
 pub mod Faults
 pub mod Frame
 pub mod Report
+pub mod Shape
+pub mod Checks

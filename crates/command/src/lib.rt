@@ -1,4 +1,5 @@
 // Commands: the header, the opcode table, the faults in order, and the work of each command on its ring's window.
+pub mod checks;
 pub mod choice;
 pub mod faults;
 pub mod flags;
@@ -7,4 +8,5 @@ pub mod header;
 pub mod opcode;
 pub mod outcome;
 pub mod report;
+pub mod shape;
 pub mod table;

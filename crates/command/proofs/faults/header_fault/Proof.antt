@@ -11,14 +11,14 @@ row-of-requires c κs = search needs
 
 returns : tie.Need-returns
 unfolding headerFault
-returns c = chosen _ _ _ (cc)
+returns c = chosen _ _ _ (cc) refl
 
 reserved-requires : tie.Need-reserved-requires
 reserved-requires c κs = search needs
 
 returns-2 : tie.Need-returns-2
 unfolding headerFault
-returns-2 c = passed _ _ _ (cc) (chosen _ _ _ (cc))
+returns-2 c = passed _ _ _ (cc) (chosen _ _ _ (cc) refl)
 
 payload-requires : tie.Need-payload-requires
 payload-requires c κs = search needs
@@ -28,7 +28,7 @@ differing-requires c κs = search needs
 
 returns-3 : tie.Need-returns-3
 unfolding headerFault
-returns-3 c = passed _ _ _ (cc) (passed _ _ _ (cc) (chosen _ _ _ (cc)))
+returns-3 c = passed _ _ _ (cc) (passed _ _ _ (cc) (chosen _ _ _ (cc) refl))
 
 emit-requires : tie.Need-emit-requires
 emit-requires c κs = search needs
@@ -44,7 +44,7 @@ both-requires c κs = search needs
 
 returns-4 : tie.Need-returns-4
 unfolding headerFault
-returns-4 c = passed _ _ _ (cc) (passed _ _ _ (cc) (passed _ _ _ (cc) (chosen _ _ _ (cc))))
+returns-4 c = passed _ _ _ (cc) (passed _ _ _ (cc) (passed _ _ _ (cc) (chosen _ _ _ (cc) refl)))
 
 returns-5 : tie.Need-returns-5
 unfolding headerFault

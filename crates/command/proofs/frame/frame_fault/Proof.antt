@@ -11,21 +11,21 @@ frame-misaligned-requires c κs = search needs
 
 returns : tie.Need-returns
 unfolding frameFault
-returns c = chosen _ _ _ (cc)
+returns c = chosen _ _ _ (cc) refl
 
 frame-outside-requires : tie.Need-frame-outside-requires
 frame-outside-requires c κs = search needs
 
 returns-2 : tie.Need-returns-2
 unfolding frameFault
-returns-2 c = passed _ _ _ (cc) (chosen _ _ _ (cc))
+returns-2 c = passed _ _ _ (cc) (chosen _ _ _ (cc) refl)
 
 frame-unfit-requires : tie.Need-frame-unfit-requires
 frame-unfit-requires c κs = search needs
 
 returns-3 : tie.Need-returns-3
 unfolding frameFault
-returns-3 c = passed _ _ _ (cc) (passed _ _ _ (cc) (chosen _ _ _ (cc)))
+returns-3 c = passed _ _ _ (cc) (passed _ _ _ (cc) (chosen _ _ _ (cc) refl))
 
 returns-4 : tie.Need-returns-4
 unfolding frameFault

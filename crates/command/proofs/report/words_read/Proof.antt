@@ -17,7 +17,7 @@ cast-result c = search needs
 
 returns : tie.Need-returns
 unfolding wordsRead
-returns c = chosen _ _ _ (cc)
+returns c = chosen _ _ _ (cc) refl
 
 returns-2 : tie.Need-returns-2
 unfolding wordsRead
