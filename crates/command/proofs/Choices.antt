@@ -18,6 +18,11 @@ pub both-right : (a b : Bool) → (a && b) ≡ true → b ≡ true
 both-right true b e = e
 both-right false b e = cc
 
+-- not both, and the first holds
+pub not-both : (a b : Bool) → a ≡ true → (a && b) ≡ false → b ≡ false
+not-both true b h e = e
+not-both false b h e = cc
+
 -- neither holds
 pub neither-left : (a b : Bool) → (a || b) ≡ false → a ≡ false
 neither-left true b e = e

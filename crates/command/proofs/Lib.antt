@@ -5,3 +5,5 @@ pub mod Outcomes
 pub mod Sizes
 pub mod Agree
 pub mod Shapes
+pub mod Inside
+pub mod Works
