@@ -3,7 +3,7 @@
 use mathlib.Core.Path.{_≡_, refl}
 use mathlib.Core.Bool.{Bool, true, false, cond, _&&_, _||_}
 use Prim.Native.Nat.{ℕ, _≤_}
-use Rattle.command.specs.Choice.{either}
+use Rattle.command.specs.Choice.{differ, either}
 
 pub cond-le : (b : Bool) {x y n : ℕ} → x ≤ n → y ≤ n → cond b x y ≤ n
 cond-le true hx hy = hx
@@ -31,6 +31,12 @@ neither-left false b e = refl
 pub neither-right : (a b : Bool) → (a || b) ≡ false → b ≡ false
 neither-right true b e = cc
 neither-right false b e = e
+
+-- tests that do not differ
+pub same-tests : (a b : Bool) → differ a b ≡ false → a ≡ b
+same-tests true true e = refl
+same-tests true false e = cc
+same-tests false b e = cc
 
 -- a chain of tests gives what stands at the first that holds
 module _ {A : Type 0} where

@@ -7,3 +7,5 @@ pub mod Agree
 pub mod Shapes
 pub mod Inside
 pub mod Works
+pub mod Faultless
+pub mod Performs

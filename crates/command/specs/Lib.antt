@@ -10,3 +10,4 @@ pub mod Report
 pub mod Shape
 pub mod Checks
 pub mod Work
+pub mod Perform
