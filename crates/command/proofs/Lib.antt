@@ -1,0 +1,11 @@
+pub mod Choices
+pub mod Every
+pub mod Entries
+pub mod Outcomes
+pub mod Sizes
+pub mod Agree
+pub mod Shapes
+pub mod Inside
+pub mod Works
+pub mod Faultless
+pub mod Performs

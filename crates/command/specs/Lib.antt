@@ -1,0 +1,13 @@
+pub mod Outcome
+pub mod Choice
+pub mod Opcode
+pub mod Table
+pub mod Flags
+pub mod Header
+pub mod Faults
+pub mod Frame
+pub mod Report
+pub mod Shape
+pub mod Checks
+pub mod Work
+pub mod Perform
