@@ -9,3 +9,4 @@ pub mod Frame
 pub mod Report
 pub mod Shape
 pub mod Checks
+pub mod Perform

@@ -1,0 +1,4 @@
+pub mod Seeks
+pub mod Wholes
+pub mod Verdicts
+pub mod Windows

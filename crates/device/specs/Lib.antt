@@ -1,0 +1,5 @@
+pub mod State
+pub mod Refusal
+pub mod Fresh
+pub mod Ready
+pub mod Turn
