@@ -2,3 +2,4 @@ pub mod Seeks
 pub mod Wholes
 pub mod Verdicts
 pub mod Windows
+pub mod BytesLeft

@@ -3,3 +3,4 @@ pub mod Refusal
 pub mod Fresh
 pub mod Ready
 pub mod Turn
+pub mod Left
