@@ -9,4 +9,3 @@ pub mod Frame
 pub mod Report
 pub mod Shape
 pub mod Checks
-pub mod Perform

@@ -11,7 +11,7 @@ use lib.Dec.{eqb}
 use borrow.Author.Tests.{eqb-true, eqb-false}
 use native.Mathlib.Nat.{not-suc-le-zero}
 use Rattle.command.specs.declared.header.Command.{Command}
-use Rattle.command.specs.declared.perform.Performed.{Performed}
+use Rattle.command.specs.declared.work.Performed.{Performed}
 use Rattle.command.specs.Choice.{either}
 use Rattle.command.specs.Header.{commandAt}
 use Rattle.command.specs.Report.{emits}

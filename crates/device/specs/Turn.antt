@@ -8,7 +8,7 @@ use Rattle.memory.specs.Window.{windowOf, putBack}
 use Rattle.command.specs.declared.header.Command.{Command}
 use Rattle.command.specs.declared.outcome.Outcome.{Outcome}
 use Rattle.command.specs.declared.frame.Frame.{Frame}
-use Rattle.command.specs.declared.perform.Performed.{Performed}
+use Rattle.command.specs.declared.work.Performed.{Performed}
 use Rattle.command.specs.Choice.{either}
 use Rattle.command.specs.Header.{commandAt, isWhole}
 use Rattle.command.specs.Perform.{performedOf}

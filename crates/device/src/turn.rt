@@ -23,6 +23,7 @@ use command::perform::perform;
 use command::report::emits_fence;
 use command::report::raises_irq;
 use command::report::words_read;
+use command::work::Performed;
 use kernel::run::STEP_LIMIT;
 use words::arithmetic::add;
 

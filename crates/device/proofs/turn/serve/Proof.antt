@@ -42,10 +42,19 @@ part-perform-end : tie.Need-part-perform-end
 part-perform-end c = rw (c .before .before .before .before .before .before .ring .ensures) (c .before .before .before .before .before .before .before .before .before .before .before .pre .fits)
 
 perform-requires : tie.Need-perform-requires
-perform-requires c κs = (c .before .before .before .before .before .before .before .before .before .before .before .before .before .pre .room, rw (c .before .before .before .before .before .before .command-at .ensures, c .before .before .before .before .before .before .before .before .ring .ensures) (payload-inside _ _ (c .before .before .before .before .before .before .before .before .before .before .before .before .before .pre .whole)))
+perform-requires c κs =
+    let s = c .before .before .before .before .before .before .before .before .before .before .before .before .before in
+    record {
+      payload = rw (c .before .before .before .before .before .before .command-at .ensures, c .before .before .before .before .before .before .before .before .ring .ensures) (payload-inside _ _ (s .pre .whole));
+      room = s .pre .room }
 
 finish-requires : tie.Need-finish-requires
-finish-requires c κs = (c .before .before .before .before .before .before .before .before .before .before .before .before .before .before .before .before .before .before .pre .number, rw (c .before .before .before .before .before .before .before .before .before .before .before .command-at .ensures, c .before .before .before .before .before .before .before .before .before .before .before .before .before .ring .ensures) (omega (arith, whole-inside _ _ (c .before .before .before .before .before .before .before .before .before .before .before .before .before .before .before .before .before .before .pre .whole), c .before .before .before .before .before .before .before .before .before .before .before .before .before .before .before .before .before .before .pre .short)))
+finish-requires c κs =
+    let s = c .before .before .before .before .before .before .before .before .before .before .before .before .before .before .before .before .before .before in (
+      s .pre .number,
+      rw (c .before .before .before .before .before .before .before .before .before .before .before .command-at .ensures, c .before .before .before .before .before .before .before .before .before .before .before .before .before .ring .ensures)
+      (omega (arith, whole-inside _ _ (s .pre .whole), s .pre .short)),
+    )
 
 same-length : tie.Need-same-length
 same-length c = search needs
@@ -64,8 +73,8 @@ returns c =
     rw (← c .before .before .before .before .before .before .before .before .before .before .before .before .before .before .ring .ensures, ← c .before .before .before .before .before .before .before .before .before .before .before .before .command-at .ensures, ← c .before .before .before .before .before .before .before .before .before .before .before .slot .ensures, ← lent-window start n m)
     (record {
       answer = rw (c .finish .ensures, p .ensures .answer);
-      memory = lent-back start n m (rw (c .before .before .before .before .before .before .before .before .before .before .before .before .before .before .ring .ensures) (s .pre .fits)) (p .last .1 .1 .1 .0) (p .kept .1 .1 .1 .0) ∙ ap (λ w. putBack start w m) (p .ensures .window);
-      pipe = p .ensures .pipe;
+      memory = lent-back start n m (rw (c .before .before .before .before .before .before .before .before .before .before .before .before .before .before .ring .ensures) (s .pre .fits)) (p .last .1 .1 .1 .0) (p .kept .1 .1 .1 .0) ∙ ap (λ w. putBack start w m) (p .ensures .memory);
+      pipe = p .ensures .words;
     })
 
 pub serve-spec : {M : Type 1} → statement M
