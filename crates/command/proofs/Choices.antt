@@ -3,7 +3,7 @@
 use mathlib.Core.Path.{_≡_, refl}
 use mathlib.Core.Bool.{Bool, true, false, cond, _&&_, _||_}
 use Prim.Native.Nat.{ℕ, _≤_}
-use Rattle.command.specs.Choice.{either}
+use Rattle.command.specs.Choice.{differ, either}
 
 pub cond-le : (b : Bool) {x y n : ℕ} → x ≤ n → y ≤ n → cond b x y ≤ n
 cond-le true hx hy = hx
@@ -18,6 +18,11 @@ pub both-right : (a b : Bool) → (a && b) ≡ true → b ≡ true
 both-right true b e = e
 both-right false b e = cc
 
+-- not both, and the first holds
+pub not-both : (a b : Bool) → a ≡ true → (a && b) ≡ false → b ≡ false
+not-both true b h e = e
+not-both false b h e = cc
+
 -- neither holds
 pub neither-left : (a b : Bool) → (a || b) ≡ false → a ≡ false
 neither-left true b e = e
@@ -26,6 +31,12 @@ neither-left false b e = refl
 pub neither-right : (a b : Bool) → (a || b) ≡ false → b ≡ false
 neither-right true b e = cc
 neither-right false b e = e
+
+-- tests that do not differ
+pub same-tests : (a b : Bool) → differ a b ≡ false → a ≡ b
+same-tests true true e = refl
+same-tests true false e = cc
+same-tests false b e = cc
 
 -- a chain of tests gives what stands at the first that holds
 module _ {A : Type 0} where

@@ -5,3 +5,7 @@ pub mod Outcomes
 pub mod Sizes
 pub mod Agree
 pub mod Shapes
+pub mod Inside
+pub mod Works
+pub mod Faultless
+pub mod Performs

@@ -9,3 +9,5 @@ pub mod Frame
 pub mod Report
 pub mod Shape
 pub mod Checks
+pub mod Work
+pub mod Perform

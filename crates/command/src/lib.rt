@@ -7,6 +7,8 @@ pub mod frame;
 pub mod header;
 pub mod opcode;
 pub mod outcome;
+pub mod perform;
 pub mod report;
 pub mod shape;
 pub mod table;
+pub mod work;

@@ -2,3 +2,12 @@ pub mod Settled
 pub mod Runs
 pub mod Dispatches
 pub mod Packs
+pub mod Steps
+pub mod StepByStep
+pub mod StepLimit
+pub mod Stopping
+pub mod Windows
+pub mod Nested
+pub mod Threads
+pub mod KernelWords
+pub mod Examples

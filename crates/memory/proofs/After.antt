@@ -1,8 +1,10 @@
--- Laws of `after`: no turn, one more turn, what each turn keeps, and turns that agree.
+-- Laws of `after`: no turn, one more turn, what each turn keeps, what one turn makes, and turns that agree.
 -- Assumes nothing.
-use mathlib.Core.Path.{_≡_, refl}
+use mathlib.Core.Path.{_≡_, refl, subst}
 use Prim.Native.Nat.{ℕ, zero, suc, _+_, _<_}
+use native.Mathlib.Nat.{add-zero, add-suc}
 use native.Mathlib.Numerals.{add-one}
+use native.Mathlib.Decide.{decLt}
 use native.Mathlib.Omega.{arith}
 use Rattle.memory.specs.After.{after}
 
@@ -27,6 +29,25 @@ module _ {A : Type 0} (f : ℕ → A → A) where
   unfolding after
   after-same g zero m step = refl
   after-same g (suc n) m step = rw (step n (after f n m)) (after-same g n m step)
+
+  -- what turn j makes so and every later turn keeps is so in the end
+  pub after-made : (P : A → Type 0) (j n : ℕ) (m : A) → j < n → P (f j (after f j m))
+      → ((i : ℕ) (x : A) → j < i → i < n → P x → P (f i x)) → P (after f n m)
+  unfolding after
+  after-made P j zero m h made step = absurd (omega arith)
+  after-made P j (suc n) m h made step = go (decLt j n) (λ b. after-made P j n m b made (λ i x low high. step i x low (omega arith)))
+    where
+      go : Dec (j < n) → (j < n → P (after f n m)) → P (f n (after f n m))
+      go (yes b) before = step n (after f n m) b (omega arith) (before b)
+      go (no b) before =
+          let last : j ≡ n = omega arith in
+          subst (λ k. P (f k (after f k m))) last made
+
+-- n + k turns are n turns and then k more
+pub after-split : {A : Type 0} (f : ℕ → A → A) (n k : ℕ) (m : A) → after f (n + k) m ≡ after (λ i. f (n + i)) k (after f n m)
+unfolding after
+after-split f n zero m = rw add-zero
+after-split f n (suc k) m = rw (add-suc, after-split f n k m)
 
 -- two ways that agree below n, on whatever they meet, give the same
 pub after-agree : {A : Type 0} (f g : ℕ → A → A) (n : ℕ) (m : A) → ((i : ℕ) (x : A) → i < n → f i x ≡ g i x) → after f n m ≡ after g n m

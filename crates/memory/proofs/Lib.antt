@@ -6,3 +6,9 @@ pub mod Filled
 pub mod Copied
 pub mod Transferred
 pub mod Window
+pub mod Kept
+pub mod Lengths
+pub mod ByteSized
+pub mod Others
+pub mod Pixels
+pub mod Accessed

@@ -2,10 +2,12 @@
 -- Assumes nothing.
 use mathlib.Core.Path.{_≡_}
 use mathlib.Core.Bool.{false}
-use Prim.Native.Nat.{ℕ, _+_, _-_, _*_, _≤_, _<_}
+use Prim.Native.Nat.{ℕ, _+_, _-_, _*_, _≤_, _<_, _^_}
 use native.Mathlib.Nat.{mul-le-mul-right}
 use native.Mathlib.Omega.{arith}
 use lib.Dec.{eqb}
+use mir.Syntax.{w64}
+use mir.Val.{Fits}
 use borrow.Author.Tests.{ne-eqb}
 use Rattle.memory.specs.Rectangle.{rectangleEnd}
 
@@ -18,8 +20,15 @@ rectangle-end address stride width height hw hh =
     rw (w, h)
 
 -- row y is no further than the last
-pub row-inside : (address stride width height y n : ℕ) → 0 < width → y < height → rectangleEnd address stride width height ≤ n
-    → address + y * stride + 4 * width ≤ n
-row-inside address stride width height y n hw hy h =
-    let before : y ≤ height - 1 = omega arith in
-    omega (arith, rectangle-end address stride width height hw (omega arith), mul-le-mul-right stride before)
+module _ (address stride width height y n : ℕ) (wide : 0 < width) (below : y < height) (inside : rectangleEnd address stride width height ≤ n) where
+  pub row-inside : address + y * stride + 4 * width ≤ n
+  row-inside =
+      let before : y ≤ height - 1 = omega arith in
+      omega (arith, rectangle-end address stride width height wide (omega arith), mul-le-mul-right stride before)
+
+  -- its offset and its start are numbers that the code can hold
+  pub row-offset-fits : n < 2 ^ 64 → Fits w64 (y * stride)
+  row-offset-fits small = omega (arith, row-inside)
+
+  pub row-start-fits : n < 2 ^ 64 → Fits w64 (address + y * stride)
+  row-start-fits small = omega (arith, row-inside)

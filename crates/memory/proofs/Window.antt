@@ -14,6 +14,11 @@ pub loan-put-back : (a e : ℕ) (xs ys : List ℕ) → length ys ≡ e - a → t
 unfolding putBack
 loan-put-back a e xs ys h = rw (drop-drop, h)
 
+-- the same where the part came back as long as it was lent, as every callee leaves it
+pub loan-kept : (a e : ℕ) (xs ys : List ℕ) → a ≤ e → e ≤ length xs → length ys ≡ length (take (e - a) (drop a xs))
+    → take a xs ++ (ys ++ drop (e - a) (drop a xs)) ≡ putBack a ys xs
+loan-kept a e xs ys low high kept = loan-put-back a e xs ys (kept ∙ simp (length-take, length-drop) (omega arith))
+
 -- two memories that agree on a window's bytes have the same window
 pub same-window : (start n : ℕ) (m₁ m₂ : List ℕ) → length m₁ ≡ length m₂ → start + n ≤ length m₂
     → ((i : ℕ) → start ≤ i → i < start + n → getD m₁ i 0 ≡ getD m₂ i 0) → windowOf start n m₁ ≡ windowOf start n m₂

@@ -1,6 +1,6 @@
 -- Loads and stores of a byte, a half or a word, at any address and alignment.
-use Prim.Native.Nat.{ℕ}
 use mathlib.Core.List.{List}
+use Prim.Native.Nat.{ℕ}
 use lib.ListN.{length, getD}
 use Rattle.words.specs.Signed.{extended}
 use Rattle.memory.specs.declared.access.Width.{Width}

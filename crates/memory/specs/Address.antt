@@ -1,6 +1,6 @@
 -- The address test.
-use Prim.Native.Nat.{ℕ, _+_}
 use mathlib.Core.Bool.{cond}
+use Prim.Native.Nat.{ℕ, _+_}
 use lib.Dec.{leb}
 use Rattle.memory.specs.declared.address.Reach.{Reach}
 use Rattle.memory.specs.declared.address.Reach.the-variants.{Inside, Outside}

@@ -1,6 +1,6 @@
 -- Copies of words. Each word is read when its turn comes.
-use Prim.Native.Nat.{ℕ, _+_, _*_}
 use mathlib.Core.List.{List}
+use Prim.Native.Nat.{ℕ, _+_, _*_}
 use Rattle.memory.specs.After.{after}
 use Rattle.memory.specs.Place.{wordAt, withWord}
 

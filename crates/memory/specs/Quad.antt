@@ -1,6 +1,6 @@
 -- Loads and stores of four words, 16 bytes.
-use Prim.Native.Nat.{ℕ, _+_}
 use mathlib.Core.List.{List}
+use Prim.Native.Nat.{ℕ, _+_}
 use lib.ListN.{length}
 use Rattle.memory.specs.declared.quad.Quad.{Quad}
 use Rattle.memory.specs.declared.quad.LoadedQuad.{LoadedQuad}

@@ -1,7 +1,7 @@
 -- Rectangles of pixels. A pixel is one word; pixel (x, y) lies at address + y·stride + 4·x.
-use Prim.Native.Nat.{ℕ, _+_, _-_, _*_}
 use mathlib.Core.Bool.{cond}
 use mathlib.Core.List.{List}
+use Prim.Native.Nat.{ℕ, _+_, _-_, _*_}
 use lib.Dec.{eqb}
 use Rattle.memory.specs.After.{after}
 use Rattle.memory.specs.Place.{withWord}

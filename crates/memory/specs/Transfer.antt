@@ -1,6 +1,6 @@
 -- Bytes taken from one lent slice into another.
-use Prim.Native.Nat.{ℕ, _+_}
 use mathlib.Core.List.{List}
+use Prim.Native.Nat.{ℕ, _+_}
 use lib.ListN.{getD, set}
 use Rattle.memory.specs.After.{after}
 

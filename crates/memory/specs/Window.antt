@@ -1,6 +1,6 @@
 -- A window taken out of a memory and put back.
-use Prim.Native.Nat.{ℕ, _+_}
 use mathlib.Core.List.{List, _++_}
+use Prim.Native.Nat.{ℕ, _+_}
 use lib.ListN.{length, take, drop}
 
 -- the n bytes of the memory from `start` on

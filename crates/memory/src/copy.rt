@@ -25,6 +25,7 @@ pub fn blit(window: &mut [u8], to: usize, from: usize, stride: usize, width: usi
         return;
     }
     for y in 0..height {
-        copy(window, to + y * stride, from + y * stride, width);
+        let row = y * stride;
+        copy(window, to + row, from + row, width);
     }
 }

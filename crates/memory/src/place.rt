@@ -11,14 +11,20 @@ pub fn half_at(window: &[u8], at: usize) -> u32
     requires { ⌜ at + 2 ≤ length (now window) ⌝ }
     ensures { λ r. ⌜ r ≡ halfAt (now (window .entry)) at ⌝ }
 {
-    half(window[at], window[at + 1])
+    let b0 = window[at];
+    let b1 = window[at + 1];
+    half(b0, b1)
 }
 
 pub fn word_at(window: &[u8], at: usize) -> u32
     requires { ⌜ at + 4 ≤ length (now window) ⌝ }
     ensures { λ r. ⌜ r ≡ wordAt (now (window .entry)) at ⌝ }
 {
-    word(window[at], window[at + 1], window[at + 2], window[at + 3])
+    let b0 = window[at];
+    let b1 = window[at + 1];
+    let b2 = window[at + 2];
+    let b3 = window[at + 3];
+    word(b0, b1, b2, b3)
 }
 
 pub fn put_byte(window: &mut [u8], at: usize, value: u32)
@@ -42,9 +48,9 @@ pub fn put_word(window: &mut [u8], at: usize, value: u32)
     requires { ⌜ at + 4 ≤ length (now window) ⌝ }
     ensures { λ _. ⌜ now (window .exit) ≡ withWord (now (window .entry)) at value ⌝ }
 {
-    let b = word_bytes(value);
-    window[at] = b.b0;
-    window[at + 1] = b.b1;
-    window[at + 2] = b.b2;
-    window[at + 3] = b.b3;
+    let bytes = word_bytes(value);
+    window[at] = bytes.b0;
+    window[at + 1] = bytes.b1;
+    window[at + 2] = bytes.b2;
+    window[at + 3] = bytes.b3;
 }

@@ -29,6 +29,7 @@ pub fn fill(
         return;
     }
     for y in 0..height {
-        fill_row(window, address + y * stride, width, color);
+        let row = y * stride;
+        fill_row(window, address + row, width, color);
     }
 }

@@ -1,4 +1,5 @@
 -- `command::shape::end_of` meets its contract. Assumes nothing.
+use mathlib.Core.Path.{refl}
 use Rattle.command.specs.Shape.{endOf}
 use Rattle.command.proofs.Choices.{chosen, passed}
 use native.Mathlib.Omega.{arith}
@@ -36,11 +37,11 @@ add-result c = search needs
 
 returns : tie.Need-returns
 unfolding endOf
-returns c = chosen _ _ _ (cc) (cc)
+returns c = chosen _ _ _ (rw (c .before .before .before .before .before .is-rectangle .ensures) at (c .before .before .before .before .if1 .taken)) (cc)
 
 returns-2 : tie.Need-returns-2
 unfolding endOf
-returns-2 c = passed _ _ _ (cc) (cc)
+returns-2 c = passed _ _ _ (rw (c .before .before .is-rectangle .ensures) at (c .before .if1 .left)) refl
 
 pub end-of-spec : {M : Type 1} → statement M
 end-of-spec =

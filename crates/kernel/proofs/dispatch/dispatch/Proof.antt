@@ -32,7 +32,7 @@ loop-holds c = (omega arith, refl, no-thread _ _ _ _ _ _)
 
 run-thread-requires : tie.Need-run-thread-requires Inv-loop μ-loop
 run-thread-requires c κs =
-    (rw (c .before .before .before .kernel-at .ensures) (start-fits _ _ (λ i. c .before .before .before .before .before .shared-slice-known .given i .fits)), c .before .loop-test .taken)
+    (rw (c .before .before .before .kernel-at .ensures) (start-fits _ _ (λ i. c .before .before .before .before .before .shared-slice-known .given i .fits)), omega arith)
 
 enum-told : tie.Need-enum-told Inv-loop μ-loop
 enum-told c = search needs

@@ -1,6 +1,6 @@
 -- `memory::access::bytes_of` meets its contract. Assumes nothing.
-use Rattle.memory.specs.Access.{bytesOf}
 use borrow.Author.Needs.{needs}
+use Rattle.memory.specs.Access.{bytesOf}
 use Rattle.memory.proofs.access.bytes_of.Statement.{statement}
 use Rattle.memory.proofs.access.bytes_of.Tie as tie
 

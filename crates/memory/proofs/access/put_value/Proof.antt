@@ -1,8 +1,8 @@
 -- `memory::access::put_value` meets its contract. Assumes nothing.
-use Rattle.memory.specs.Access.{bytesOf, withValue}
-use native.Mathlib.Omega.{arith}
 use mathlib.Core.Path.{ap}
+use native.Mathlib.Omega.{arith}
 use borrow.Author.Needs.{needs}
+use Rattle.memory.specs.Access.{bytesOf, withValue}
 use Rattle.memory.proofs.access.put_value.Statement.{statement}
 use Rattle.memory.proofs.access.put_value.Tie as tie
 

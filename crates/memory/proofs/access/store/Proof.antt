@@ -1,12 +1,12 @@
 -- `memory::access::store` meets its contract. Assumes nothing.
-use Rattle.memory.proofs.Reach.{inside-reach}
+use mathlib.Core.Path.{_≡_, sym}
+use lib.ListN.{length}
+use denote.Ref.{now}
+use borrow.Author.Needs.{needs}
 use Rattle.memory.specs.Access.{bytesOf, storeOf}
 use Rattle.memory.specs.Address.{reachOf, ifInside}
 use Rattle.memory.specs.declared.address.Reach.the-variants.{Inside, Outside}
-use denote.Ref.{now}
-use lib.ListN.{length}
-use mathlib.Core.Path.{_≡_, sym}
-use borrow.Author.Needs.{needs}
+use Rattle.memory.proofs.Reach.{inside-reach}
 use Rattle.memory.proofs.access.store.Statement.{statement}
 use Rattle.memory.proofs.access.store.Tie as tie
 

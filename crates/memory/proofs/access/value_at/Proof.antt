@@ -1,10 +1,10 @@
 -- `memory::access::value_at` meets its contract. Assumes nothing.
-use denote.Ref.{now}
-use Rattle.memory.proofs.Places.{half-fits}
-use Rattle.memory.specs.Access.{bytesOf, valueAt}
-use native.Mathlib.Omega.{arith}
 use mathlib.Core.Path.{ap}
+use native.Mathlib.Omega.{arith}
+use denote.Ref.{now}
 use borrow.Author.Needs.{needs}
+use Rattle.memory.specs.Access.{bytesOf, valueAt}
+use Rattle.memory.proofs.Places.{half-fits}
 use Rattle.memory.proofs.access.value_at.Statement.{statement}
 use Rattle.memory.proofs.access.value_at.Tie as tie
 

@@ -1,10 +1,10 @@
 -- `memory::copy::copy` meets its contract. Assumes nothing.
-use Rattle.memory.proofs.Copied.{copied-none, copied-more}
-use Rattle.memory.specs.Copy.{copied}
+use mathlib.Core.Path.{_≡_, refl, sym}
+use Prim.Native.Nat.{_≤_, _-_}
 use native.Mathlib.Omega.{arith}
 use lib.ListN.{length}
-use Prim.Native.Nat.{_≤_, _-_}
-use mathlib.Core.Path.{_≡_, refl, sym}
+use Rattle.memory.specs.Copy.{copied}
+use Rattle.memory.proofs.Copied.{copied-none, copied-more}
 use Rattle.memory.proofs.copy.copy.Statement.{statement}
 use Rattle.memory.proofs.copy.copy.Tie as tie
 
@@ -42,7 +42,10 @@ loop-less : tie.Need-loop-less Inv-loop μ-loop
 loop-less c = omega arith
 
 loop-again : tie.Need-loop-again Inv-loop μ-loop
-loop-again c = (omega arith, omega arith, rw copied-more (cc))
+loop-again c =
+    let turn = c .before .before .before .before .before .before .before .loop in
+    let word = c .before .before .before .before .word-at in
+    (omega arith, omega arith, rw (copied-more, ← turn .inv .2, ← word .ensures) (c .before .before .put-word .ensures))
 
 same-length : tie.Need-same-length Inv-loop μ-loop
 same-length c = c .before .loop .inv .1
@@ -50,7 +53,7 @@ same-length c = c .before .loop .inv .1
 returns : tie.Need-returns Inv-loop μ-loop
 returns c =
     let all : c .before .loop .i ≡ c .before .before .before .args .words = omega arith in
-    cc
+    rw (← all) (c .before .loop .inv .2)
 
 pub copy-spec : {M : Type 1} → statement M
 copy-spec =

@@ -1,6 +1,6 @@
 -- `memory::place::put_byte` meets its contract. Assumes nothing.
-use Rattle.memory.specs.Place.{withByte}
 use borrow.Author.Needs.{needs}
+use Rattle.memory.specs.Place.{withByte}
 use Rattle.memory.proofs.place.put_byte.Statement.{statement}
 use Rattle.memory.proofs.place.put_byte.Tie as tie
 

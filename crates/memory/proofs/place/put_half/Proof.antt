@@ -1,8 +1,8 @@
 -- `memory::place::put_half` meets its contract. Assumes nothing.
-use lib.ListN.{length-set}
 use native.Mathlib.Omega.{arith}
-use Rattle.memory.specs.Place.{withHalf}
+use lib.ListN.{length-set}
 use borrow.Author.Needs.{needs}
+use Rattle.memory.specs.Place.{withHalf}
 use Rattle.memory.proofs.place.put_half.Statement.{statement}
 use Rattle.memory.proofs.place.put_half.Tie as tie
 

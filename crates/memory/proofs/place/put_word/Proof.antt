@@ -1,8 +1,8 @@
 -- `memory::place::put_word` meets its contract. Assumes nothing.
-use lib.ListN.{length-set}
 use native.Mathlib.Omega.{arith}
-use Rattle.memory.specs.Place.{withWord}
+use lib.ListN.{length-set}
 use borrow.Author.Needs.{needs}
+use Rattle.memory.specs.Place.{withWord}
 use Rattle.memory.proofs.place.put_word.Statement.{statement}
 use Rattle.memory.proofs.place.put_word.Tie as tie
 

@@ -1,13 +1,13 @@
 -- `memory::quad::load_quad` meets its contract. Assumes nothing.
-use Rattle.memory.proofs.Reach.{inside-reach}
+use mathlib.Core.Path.{_≡_, ap}
+use lib.ListN.{length}
+use denote.Ref.{now}
+use borrow.Author.Needs.{needs}
 use Rattle.memory.specs.Quad.{loadQuadOf}
 use Rattle.memory.specs.Address.{reachOf, ifInside}
 use Rattle.memory.specs.declared.quad.LoadedQuad.the-variants.{Words}
 use Rattle.memory.specs.declared.address.Reach.the-variants.{Inside, Outside}
-use denote.Ref.{now}
-use lib.ListN.{length}
-use mathlib.Core.Path.{_≡_, ap}
-use borrow.Author.Needs.{needs}
+use Rattle.memory.proofs.Reach.{inside-reach}
 use Rattle.memory.proofs.quad.load_quad.Statement.{statement}
 use Rattle.memory.proofs.quad.load_quad.Tie as tie
 

@@ -1,6 +1,6 @@
 -- `memory::quad::put_quad` meets its contract. Assumes nothing.
-use Rattle.memory.specs.Quad.{withQuad}
 use borrow.Author.Needs.{needs}
+use Rattle.memory.specs.Quad.{withQuad}
 use Rattle.memory.proofs.quad.put_quad.Statement.{statement}
 use Rattle.memory.proofs.quad.put_quad.Tie as tie
 

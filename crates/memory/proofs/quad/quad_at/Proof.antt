@@ -1,6 +1,6 @@
 -- `memory::quad::quad_at` meets its contract. Assumes nothing.
-use Rattle.memory.specs.Quad.{quadAt}
 use borrow.Author.Needs.{needs}
+use Rattle.memory.specs.Quad.{quadAt}
 use Rattle.memory.proofs.quad.quad_at.Statement.{statement}
 use Rattle.memory.proofs.quad.quad_at.Tie as tie
 

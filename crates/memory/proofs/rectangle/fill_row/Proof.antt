@@ -1,11 +1,11 @@
 -- `memory::rectangle::fill_row` meets its contract. Assumes nothing.
 use mathlib.Core.Path.{_≡_, refl, sym}
-use Rattle.memory.proofs.Filled.{filled-row-none, filled-row-more}
-use Rattle.memory.specs.Rectangle.{filledRow}
+use mathlib.Core.Path.{_≡_, sym}
+use Prim.Native.Nat.{_≤_, _-_}
 use native.Mathlib.Omega.{arith}
 use lib.ListN.{length}
-use Prim.Native.Nat.{_≤_, _-_}
-use mathlib.Core.Path.{_≡_, sym}
+use Rattle.memory.specs.Rectangle.{filledRow}
+use Rattle.memory.proofs.Filled.{filled-row-none, filled-row-more}
 use Rattle.memory.proofs.rectangle.fill_row.Statement.{statement}
 use Rattle.memory.proofs.rectangle.fill_row.Tie as tie
 
@@ -34,7 +34,9 @@ loop-less : tie.Need-loop-less Inv-loop μ-loop
 loop-less c = omega arith
 
 loop-again : tie.Need-loop-again Inv-loop μ-loop
-loop-again c = (omega arith, omega arith, rw filled-row-more (cc))
+loop-again c =
+    let turn = c .before .before .before .before .before .loop in
+    (omega arith, omega arith, rw (filled-row-more, ← turn .inv .2) (c .before .before .put-word .ensures))
 
 same-length : tie.Need-same-length Inv-loop μ-loop
 same-length c = c .before .loop .inv .1
@@ -42,7 +44,7 @@ same-length c = c .before .loop .inv .1
 returns : tie.Need-returns Inv-loop μ-loop
 returns c =
     let all : c .before .loop .x ≡ c .before .before .before .args .width = omega arith in
-    cc
+    rw (← all) (c .before .loop .inv .2)
 
 pub fill-row-spec : {M : Type 1} → statement M
 fill-row-spec =

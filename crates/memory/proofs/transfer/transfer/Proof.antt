@@ -1,10 +1,10 @@
 -- `memory::transfer::transfer` meets its contract. Assumes nothing.
-use Rattle.memory.proofs.Transferred.{transferred-none, transferred-more}
-use Rattle.memory.specs.Transfer.{transferred}
+use mathlib.Core.Path.{_≡_, refl, sym}
+use Prim.Native.Nat.{_≤_, _-_}
 use native.Mathlib.Omega.{arith}
 use lib.ListN.{length, length-set}
-use Prim.Native.Nat.{_≤_, _-_}
-use mathlib.Core.Path.{_≡_, refl, sym}
+use Rattle.memory.specs.Transfer.{transferred}
+use Rattle.memory.proofs.Transferred.{transferred-none, transferred-more}
 use Rattle.memory.proofs.transfer.transfer.Statement.{statement}
 use Rattle.memory.proofs.transfer.transfer.Tie as tie
 
@@ -36,7 +36,7 @@ loop-less : tie.Need-loop-less Inv-loop μ-loop
 loop-less c = omega arith
 
 loop-again : tie.Need-loop-again Inv-loop μ-loop
-loop-again c = (omega arith, simp length-set (c .before .before .loop .inv .1), rw transferred-more (cc))
+loop-again c = (omega arith, simp length-set (c .before .before .loop .inv .1), rw (transferred-more, ← c .before .before .loop .inv .2))
 
 same-length : tie.Need-same-length Inv-loop μ-loop
 same-length c = c .before .loop .inv .1
@@ -44,7 +44,7 @@ same-length c = c .before .loop .inv .1
 returns : tie.Need-returns Inv-loop μ-loop
 returns c =
     let all : c .before .loop .i ≡ c .before .before .args .n = omega arith in
-    cc
+    rw (← all) (c .before .loop .inv .2)
 
 pub transfer-spec : {M : Type 1} → statement M
 transfer-spec =

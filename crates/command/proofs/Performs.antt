@@ -1,0 +1,26 @@
+-- A command is its work if it has no fault, and else the fault alone.
+-- Assumes nothing.
+use mathlib.Core.Path.{_≡_}
+use mathlib.Core.Bool.{true, false}
+use mathlib.Core.List.{List}
+use Prim.Native.Nat.{ℕ}
+use lib.ListN.{length}
+use Rattle.command.specs.Choice.{either}
+use Rattle.command.specs.declared.outcome.Outcome.{Outcome}
+use Rattle.command.specs.declared.header.Command.{Command}
+use Rattle.command.specs.declared.frame.Frame.{Frame}
+use Rattle.command.specs.Outcome.{isDone}
+use Rattle.command.specs.Work.{leaves, workOf}
+use Rattle.command.specs.Perform.{faultOf, guarded, performedOf}
+
+module _ (c : Command) (slot : ℕ) (ring window : List ℕ) (frame : Frame) (pack pipe : List ℕ) (limit : ℕ) where
+  abbrev pub faultHere : Outcome
+  faultHere = faultOf c slot (length window) frame pack
+
+  pub performed-work : isDone faultHere ≡ true → performedOf c slot ring window frame pack pipe limit ≡ workOf c ring window frame pack pipe limit
+  unfolding performedOf guarded either
+  performed-work e = rw e
+
+  pub performed-fault : isDone faultHere ≡ false → performedOf c slot ring window frame pack pipe limit ≡ leaves faultHere frame window pipe
+  unfolding performedOf guarded either
+  performed-fault e = rw e

@@ -1,0 +1,138 @@
+-- The instructions that were worked by hand, P4 to P10, on the definitions.
+-- Assumes nothing.
+use mathlib.Core.Path.{_≡_, refl, _∙_}
+use mathlib.Core.Bool.{true}
+use mathlib.Core.List.{List, [], _∷_}
+use Prim.Native.Nat.{ℕ, zero, suc, _*_, _^_, _≤_, _<_}
+use native.Mathlib.Numerals.{add-one}
+use borrow.Author.Tests.{lt-leb}
+use native.Mathlib.Nat.{mul-pos}
+use native.Mathlib.Omega.{arith}
+use lib.ListN as ListN
+use Rattle.words.specs.declared.lanes.LaneOp.the-variants.{Add as VAdd}
+use Rattle.words.specs.declared.lanes.LaneType.the-variants.{I16, I8}
+use Rattle.words.specs.Lanes.{lanesOf, lanewise}
+use Rattle.words.specs.Counts.{firstSet}
+use Rattle.words.specs.Arithmetic.{magnitude}
+use Rattle.words.specs.Bytes.{byteOf}
+use Rattle.memory.specs.Address.{ifInside}
+use Rattle.memory.specs.Place.{wordAt}
+use Rattle.memory.specs.Access.{bytesOf}
+use Rattle.memory.proofs.Reach.{reach-outside}
+use Rattle.instruction.specs.declared.list.Op.the-variants.{Alu, Unary, AluImm}
+use Rattle.instruction.specs.declared.list.AluOp.the-variants.{Add}
+use Rattle.instruction.specs.declared.list.UnaryOp.the-variants.{Abs, Clz}
+use Rattle.instruction.specs.declared.effect.Stop.{Stop}
+use Rattle.instruction.specs.declared.effect.Stop.the-variants.{OutsideTheWindow, OutOfSteps}
+use Rattle.instruction.specs.Rows.{scalarRow, plainRow, countRow, immediateRow, storeRow, branchRow}
+use Rattle.instruction.specs.Decode.{opOf, decoded}
+use Rattle.instruction.specs.Meaning.{aluOf, unaryOf, holdsOf}
+use Rattle.instruction.specs.Effect.{branchEffect, effectOf}
+use Rattle.kernel.specs.declared.pack.Kernel.{Kernel}
+use Rattle.kernel.specs.declared.thread.Thread.{Thread}
+use Rattle.kernel.specs.declared.step.Progress.the-variants.{Stopped}
+use Rattle.kernel.specs.declared.dispatch.Ran.the-variants.{Stopped as StoppedFor}
+use Rattle.kernel.specs.Pack.{kernelCount, firstWord, kernelWords, codeCount, liesInCode, allLie, soundPack, kernelOf}
+use Rattle.kernel.specs.Registers.{scalarOf, withScalar, startRegisters}
+use Rattle.kernel.specs.Thread.{started, written, advanced, movedTo}
+use Rattle.kernel.specs.Step.{stops, goesOn, lands, branched, afterStore, applied, executed, stepOf}
+use Rattle.kernel.specs.Run.{running, stepsOf}
+use Rattle.kernel.specs.Dispatch.{ranOf, shown, dispatchOf}
+use Rattle.kernel.proofs.Runs.{no-step}
+use Rattle.kernel.proofs.Steps.{at-the-limit}
+use Rattle.kernel.proofs.StepByStep.{more-running, one-more}
+use Rattle.kernel.proofs.Stopping.{stopped-run}
+use Rattle.kernel.proofs.Threads.{first-stops}
+
+-- a thread at its start, alone in its dispatch
+abbrev fresh : Thread
+fresh = started 0 0 1 1
+
+-- a thread after one instruction
+abbrev then : ℕ → Thread → Thread
+then w t = executed 4 (decoded w) t [] .stepped .thread
+
+-- what scalar register n of a thread reads
+abbrev s : ℕ → Thread → ℕ
+s n t = scalarOf (t .registers) n
+
+-- FFF00297 (ADDI s5, s0, -1): 4,294,967,295
+pub p4 : (opOf 0xFFF00297 ≡ AluImm Add 4294967295) × (s 5 (then 0xFFF00297 fresh) ≡ 4294967295)
+unfolding started startRegisters executed decoded opOf immediateRow effectOf aluOf applied goesOn advanced movedTo written withScalar scalarOf
+p4 = (refl, refl)
+
+-- then 0052830B (ADD s6, s5, s5): 4,294,967,294
+pub p5 : (opOf 0x0052830B ≡ Alu Add) × (s 6 (then 0x0052830B (then 0xFFF00297 fresh)) ≡ 4294967294)
+unfolding started startRegisters executed decoded opOf immediateRow scalarRow plainRow effectOf aluOf applied goesOn advanced movedTo written withScalar scalarOf
+p5 = (refl, refl)
+
+-- 0002930B is ABS, of s5 to s6: 1
+pub p6 : (opOf 0x0002930B ≡ Unary Abs) × (s 6 (then 0x0002930B (then 0xFFF00297 fresh)) ≡ 1)
+unfolding started startRegisters executed decoded opOf immediateRow scalarRow plainRow effectOf aluOf unaryOf magnitude applied goesOn advanced movedTo written withScalar scalarOf
+p6 = (refl, refl)
+
+-- 0600030B (CLZ of s0), to s6: 32
+pub p7 : (opOf 0x0600030B ≡ Unary Clz) × (s 6 (then 0x0600030B fresh) ≡ 32)
+unfolding started startRegisters executed decoded opOf scalarRow countRow effectOf unaryOf firstSet applied goesOn advanced movedTo written withScalar scalarOf
+p7 = (refl, refl)
+
+-- the pack of one kernel of one word, and its kernel
+abbrev pub packOf : ℕ → List ℕ
+packOf w =
+    1 ∷ 0 ∷ 0 ∷ 0 ∷ 0 ∷ 0 ∷ 0 ∷ 0 ∷ 1 ∷ 0 ∷ 0 ∷ 0 ∷ 1 ∷ 0 ∷ 0 ∷ 0
+    ∷ byteOf 0 w ∷ byteOf 1 w ∷ byteOf 2 w ∷ byteOf 3 w ∷ []
+
+pub pack-of-sound : (w : ℕ) → soundPack (packOf w) ≡ true
+unfolding soundPack kernelCount codeCount allLie liesInCode firstWord kernelWords wordAt
+pack-of-sound w = refl
+
+abbrev theKernel : Kernel
+theKernel = record { start = 16; length = 4 }
+
+module _ (groups threads : ℕ) (window : List ℕ) where
+  -- a dispatch whose first thread is stopped by a step that finds the window as it was
+  stopped : (w n : ℕ) (t : Thread) (why : Stop) → 1 ≤ groups → 1 ≤ threads → n ≤ 4096
+      → stepsOf n 4096 (packOf w) theKernel (started 0 0 threads groups) window ≡ running t window
+      → stepOf 4096 (packOf w) theKernel t window .stepped .progress ≡ Stopped why
+      → dispatchOf 4096 (packOf w) 0 groups threads window ≡ record { ran = StoppedFor why; window = window }
+  unfolding dispatchOf shown ranOf stops kernelOf kernelCount firstWord kernelWords wordAt
+  stopped w n t why hg ht h e stop =
+      let run = stopped-run 4096 (packOf w) theKernel (started 0 0 threads groups) window n t window why h e stop in
+      first-stops 4096 (packOf w) theKernel groups threads window (groups * threads) why (mul-pos hg ht) (rw run) ∙ (rw run)
+
+  -- FE502E0D (SW at -4 from s0): 13, and nothing is stored
+  pub p8 : 1 ≤ groups → 1 ≤ threads → ListN.length window < 2 ^ 32
+      → dispatchOf 4096 (packOf 0xFE502E0D) 0 groups threads window ≡ record { ran = StoppedFor OutsideTheWindow; window = window }
+  unfolding started stepOf executed decoded opOf storeRow effectOf applied afterStore bytesOf scalarOf ifInside stops wordAt
+  p8 hg ht small =
+      stopped 0xFE502E0D 0 (started 0 0 threads groups) OutsideTheWindow hg ht (omega arith) (no-step _ _ _ _ _)
+      (rw (reach-outside (ListN.length window) 4294967292 4 (omega arith)))
+
+  -- the thread after n branches to itself
+  abbrev spun : ℕ → Thread
+  spun n = record { registers = startRegisters 0 0 threads groups; place = 0; steps = n }
+
+  spin : (limit n : ℕ) → n < limit → stepOf limit (packOf 0x0000000E) theKernel (spun n) window ≡ running (spun (suc n)) window
+  unfolding stepOf executed decoded opOf branchRow effectOf branchEffect holdsOf applied branched lands movedTo scalarOf wordAt running
+  spin limit n h = rw (lt-leb limit n h, add-one)
+
+  spins : (limit n : ℕ) → n ≤ limit → stepsOf n limit (packOf 0x0000000E) theKernel (spun 0) window ≡ running (spun n) window
+  unfolding running
+  spins limit zero h = no-step limit (packOf 0x0000000E) theKernel (spun 0) window
+  spins limit (suc n) h =
+      one-more limit _ theKernel (spun 0) window n
+      ∙ (rw (spins limit n (omega arith)) (more-running limit _ theKernel (running (spun n) window) refl))
+      ∙ spin limit n h
+
+  -- 0000000E branches to itself: 14
+  pub p9 : 1 ≤ groups → 1 ≤ threads
+      → dispatchOf 4096 (packOf 0x0000000E) 0 groups threads window ≡ record { ran = StoppedFor OutOfSteps; window = window }
+  unfolding started stops
+  p9 hg ht =
+      stopped 0x0000000E 4096 (spun 4096) OutOfSteps hg ht (omega arith) (spins 4096 4096 (omega arith))
+      (rw (at-the-limit 4096 (packOf 0x0000000E) theKernel (spun 4096) window (omega arith)))
+
+-- VADD.I8 of 010000FF and 01000001: 02000000; as I16: 02000100
+pub p10 : (lanesOf VAdd I8 0x010000FF 0x01000001 ≡ 0x02000000) × (lanesOf VAdd I16 0x010000FF 0x01000001 ≡ 0x02000100)
+unfolding lanesOf lanewise
+p10 = (refl, refl)

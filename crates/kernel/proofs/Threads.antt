@@ -1,0 +1,133 @@
+-- A dispatch's threads: which they are, in which order they run, and that a stop ends the whole dispatch.
+-- Assumes nothing.
+use mathlib.Core.Path.{_≡_, refl, _∙_}
+use mathlib.Core.List.{List}
+use mathlib.Core.Logic.{_↔_}
+use Prim.Native.Nat.{ℕ, suc, _+_, _*_, _/_, _%_, _≤_, _<_}
+use native.Mathlib.Nat.{mul-add-div-right, mul-add-mod-self-right, div-eq-of-lt, mod-eq-of-lt, zero-div, zero-mod, add-zero}
+use native.Mathlib.Omega.{arith}
+use Rattle.memory.specs.After.{after}
+use Rattle.memory.proofs.After.{after-agree}
+use Rattle.instruction.specs.declared.effect.Stop.{Stop}
+use Rattle.instruction.specs.declared.effect.Stop.the-variants.{OutOfSteps}
+use Rattle.kernel.specs.declared.pack.Kernel.{Kernel}
+use Rattle.kernel.specs.declared.step.Progress.{Progress}
+use Rattle.kernel.specs.declared.step.Progress.the-variants.{Running, Ended, Stopped}
+use Rattle.kernel.specs.declared.dispatch.Ran.{Ran}
+use Rattle.kernel.specs.declared.dispatch.Ran.the-variants.{Done, Stopped as StoppedFor}
+use Rattle.kernel.specs.Pack.{kernelOf}
+use Rattle.kernel.specs.Thread.{started}
+use Rattle.kernel.specs.Step.{State}
+use Rattle.kernel.specs.Run.{stepsOf, runOf}
+use Rattle.kernel.specs.Dispatch.{Dispatched, ranOf, shown, ifDone, going, threadOf, threadMore, threadsOf, dispatchOf}
+use Rattle.kernel.proofs.Settled.{after-stays}
+use Rattle.kernel.proofs.Dispatches.{no-thread, one-thread-more}
+use Rattle.kernel.proofs.Nested.{after-rows}
+use Rattle.kernel.proofs.StepLimit.{run-not-running, out-of-steps}
+
+-- thread g · threads + j is thread j of group g
+pub group-of : (g j threads : ℕ) → j < threads → (g * threads + j) / threads ≡ g
+group-of g j threads h = mul-add-div-right (omega arith) g j ∙ (rw (div-eq-of-lt h) (add-zero g))
+
+pub thread-of : (g j threads : ℕ) → j < threads → (g * threads + j) % threads ≡ j
+thread-of g j threads h = mul-add-mod-self-right g threads j ∙ mod-eq-of-lt h
+
+-- a thread starts with no step taken
+pub starts-fresh : (g j threads groups : ℕ) → started g j threads groups .steps ≡ 0
+unfolding started
+starts-fresh g j threads groups = refl
+
+ran-done : (p : Progress) → (p ≡ Running → ⊥) → ranOf p ≡ Done → p ≡ Ended
+unfolding ranOf
+ran-done Running not e = absurd (not refl)
+ran-done Ended not e = refl
+ran-done (Stopped why) not e = cc
+
+ran-stopped : (p : Progress) (why : Stop) → ranOf p ≡ StoppedFor why → p ≡ Stopped why
+unfolding ranOf
+ran-stopped Running why e = cc
+ran-stopped Ended why e = cc
+ran-stopped (Stopped other) why e = cc
+
+module _ (limit : ℕ) (pack : List ℕ) (kernel : Kernel) (groups threads : ℕ) where
+  -- the run of thread j of group g
+  abbrev runOfThread : ℕ → ℕ → List ℕ → State
+  runOfThread g j window = runOf limit pack kernel (started g j threads groups) window
+
+  -- thread j of group g after what came before it; after a stop nothing
+  abbrev pub threadOfGroup : ℕ → ℕ → Dispatched → Dispatched
+  threadOfGroup g j d = ifDone (d .ran) (shown (runOfThread g j (d .window))) d
+
+  pub thread-number : (g j : ℕ) (window : List ℕ) → j < threads
+      → threadOf limit pack kernel groups threads (g * threads + j) window ≡ shown (runOfThread g j window)
+  unfolding threadOf
+  thread-number g j window h = rw (group-of g j threads h, thread-of g j threads h)
+
+  module _ (g j : ℕ) (window : List ℕ) where
+    -- a thread is done exactly if its run came to its end
+    pub thread-done : (shown (runOfThread g j window) .ran ≡ Done) ↔ (runOfThread g j window .stepped .progress ≡ Ended)
+    unfolding shown ranOf
+    thread-done = (
+      ran-done _ (run-not-running limit pack kernel (started g j threads groups) window (starts-fresh g j threads groups)),
+      λ e. rw e,
+    )
+
+    -- it is stopped with 14 exactly if it is still running after the limit's steps
+    pub thread-out-of-steps : (shown (runOfThread g j window) .ran ≡ StoppedFor OutOfSteps)
+        ↔ (stepsOf limit limit pack kernel (started g j threads groups) window .stepped .progress ≡ Running)
+    unfolding shown ranOf
+    thread-out-of-steps =
+        let run = out-of-steps limit pack kernel (started g j threads groups) window (starts-fresh g j threads groups) in
+        (λ e. run .0 (ran-stopped _ OutOfSteps e), λ e. rw (run .1 e))
+
+  module _ (window : List ℕ) where
+    -- the first n threads
+    abbrev first : ℕ → Dispatched
+    first n = threadsOf n limit pack kernel groups threads window
+
+    -- n + 1 threads are n threads and then one more
+    pub one-more-thread : (n : ℕ) → first (suc n) ≡ threadMore limit pack kernel groups threads n (first n)
+    unfolding threadsOf after
+    one-more-thread n = refl
+
+    -- a stop ends the whole dispatch, and the window stays as it was left
+    pub stop-ends : (n m : ℕ) (why : Stop) → n ≤ m → first n .ran ≡ StoppedFor why → first m ≡ first n
+    unfolding threadsOf threadMore ifDone
+    stop-ends n m why h e = after-stays (threadMore limit pack kernel groups threads) (going window) n m h (λ i. rw e)
+
+    -- where no thread stopped, each ran on the window that those before it left
+    pub each-ran : (n i : ℕ) → i < n → first n .ran ≡ Done → first (suc i) ≡ threadOf limit pack kernel groups threads i (first i .window)
+    unfolding threadMore ifDone
+    each-ran n i h e = one-more-thread i ∙ go (first i .ran) refl
+      where
+        go : (r : Ran) → first i .ran ≡ r
+            → threadMore limit pack kernel groups threads i (first i) ≡ threadOf limit pack kernel groups threads i (first i .window)
+        go Done now = rw now
+        go (StoppedFor why) now =
+            let same = stop-ends i n why (omega arith) now in
+            let z : _≡_ {A = ℕ} 0 1 = cc in
+            absurd (omega arith)
+
+    by-groups : threadsOf (groups * threads) limit pack kernel groups threads window
+        ≡ after (λ g. after (threadOfGroup g) threads) groups (going window)
+    unfolding threadsOf threadMore
+    by-groups =
+        after-rows (threadMore limit pack kernel groups threads) groups threads (going window)
+        ∙ after-agree _ _ groups (going window) (λ g d b. after-agree _ _ threads d (λ j x h. rw (thread-number g j (x .window) h)))
+
+    -- if the first thread stops, the dispatch is that thread's run
+    pub first-stops : (n : ℕ) (why : Stop) → 0 < n → shown (runOfThread 0 0 window) .ran ≡ StoppedFor why
+        → first n ≡ shown (runOfThread 0 0 window)
+    unfolding threadOf
+    first-stops n why h stop =
+        let here : first 1 ≡ shown (runOfThread 0 0 window) =
+        one-thread-more limit pack kernel groups threads window 0 window (no-thread limit pack kernel groups threads window)
+        ∙ (rw (zero-div threads, zero-mod threads)) in
+        stop-ends 1 n why (omega arith) (rw here stop) ∙ here
+
+-- a dispatch goes by groups from 0 up, and in each group by threads from 0 up
+pub dispatch-by-groups : (limit : ℕ) (pack : List ℕ) (k groups threads : ℕ) (window : List ℕ)
+    → dispatchOf limit pack k groups threads window
+    ≡ after (λ g. after (threadOfGroup limit pack (kernelOf pack k) groups threads g) threads) groups (going window)
+unfolding dispatchOf
+dispatch-by-groups limit pack k groups threads window = by-groups limit pack (kernelOf pack k) groups threads window

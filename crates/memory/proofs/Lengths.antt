@@ -1,0 +1,58 @@
+-- Nothing that is done to a window changes its length, wherever the bytes lie.
+-- Assumes nothing.
+use mathlib.Core.Path.{_≡_, refl, _∙_}
+use mathlib.Core.List.{List}
+use Prim.Native.Nat.{ℕ}
+use lib.ListN.{length, length-set}
+use Rattle.memory.specs.declared.access.Width.{Width}
+use Rattle.memory.specs.declared.quad.Quad.{Quad}
+use Rattle.memory.specs.Place.{withByte, withHalf, withWord}
+use Rattle.memory.specs.Access.{withValue, storeOf}
+use Rattle.memory.specs.Quad.{withQuad, storeQuadOf}
+use Rattle.memory.specs.Rectangle.{filledRow, filled}
+use Rattle.memory.specs.Copy.{copied, blitted}
+use Rattle.memory.specs.Transfer.{transferred}
+use Rattle.memory.proofs.Kept as kept
+
+module _ (m : List ℕ) where
+  abbrev Long : List ℕ → Type 0
+  Long x = length x ≡ length m
+
+  keeps : (low high : ℕ) → kept.Keeps Long low high
+  keeps low high j b x l u s h = length-set x j b ∙ h
+
+  pub with-byte-length : (a v : ℕ) → length (withByte m a v) ≡ length m
+  with-byte-length a v = kept.with-byte-keeps Long m a v (keeps _ _) refl
+
+  pub with-half-length : (a v : ℕ) → length (withHalf m a v) ≡ length m
+  with-half-length a v = kept.with-half-keeps Long m a v (keeps _ _) refl
+
+  pub with-word-length : (a v : ℕ) → length (withWord m a v) ≡ length m
+  with-word-length a v = kept.with-word-keeps Long m a v (keeps _ _) refl
+
+  pub with-value-length : (width : Width) (a v : ℕ) → length (withValue m width a v) ≡ length m
+  with-value-length width a v = kept.with-value-keeps Long m width a v (keeps _ _) refl
+
+  pub store-length : (width : Width) (a v : ℕ) → length (storeOf m width a v) ≡ length m
+  store-length width a v = kept.store-keeps Long m width a v (keeps _ _) refl
+
+  pub with-quad-length : (a : ℕ) (q : Quad) → length (withQuad m a q) ≡ length m
+  with-quad-length a q = kept.with-quad-keeps Long m a q (keeps _ _) refl
+
+  pub store-quad-length : (a : ℕ) (q : Quad) → length (storeQuadOf m a q) ≡ length m
+  store-quad-length a q = kept.store-quad-keeps Long m a q (keeps _ _) refl
+
+  pub filled-row-length : (address width color : ℕ) → length (filledRow address width color m) ≡ length m
+  filled-row-length address width color = kept.filled-row-keeps Long address width color m (keeps _ _) refl
+
+  pub filled-length : (address stride width height color : ℕ) → length (filled address stride width height color m) ≡ length m
+  filled-length address stride width height color = kept.filled-keeps Long address stride width height color m (λ y b. keeps _ _) refl
+
+  pub copied-length : (to from words : ℕ) → length (copied to from words m) ≡ length m
+  copied-length to from words = kept.copied-keeps Long to from words m (keeps _ _) refl
+
+  pub blitted-length : (to from stride width height : ℕ) → length (blitted to from stride width height m) ≡ length m
+  blitted-length to from stride width height = kept.blitted-keeps Long to from stride width height m (λ y b. keeps _ _) refl
+
+  pub transferred-length : (source : List ℕ) (start at n : ℕ) → length (transferred source start at n m) ≡ length m
+  transferred-length source start at n = kept.transferred-keeps Long source start at n m (λ i x b h. length-set x _ _ ∙ h) refl
