@@ -1,0 +1,5 @@
+pub mod Seeks
+pub mod Wholes
+pub mod Verdicts
+pub mod Windows
+pub mod BytesLeft

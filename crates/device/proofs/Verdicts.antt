@@ -1,0 +1,119 @@
+-- What a sound call is known to have, and so what a picked ring has.
+-- Assumes nothing.
+use mathlib.Core.Path.{_≡_, refl}
+use mathlib.Core.Bool.{Bool, true, false, _&&_}
+use mathlib.Core.List.{List}
+use Prim.Native.Nat.{ℕ, zero, suc, _+_, _%_, _≤_, _<_}
+use native.Mathlib.Omega.{arith}
+use native.Mathlib.Nat.{le-of-suc-le-suc, not-suc-le-zero}
+use lib.ListN.{length}
+use lib.Dec.{leb, eqb}
+use borrow.Author.Tests.{leb-true}
+use Rattle.command.specs.Choice.{either}
+use Rattle.command.proofs.Choices.{both-left, both-right}
+use Rattle.command.specs.Header.{commandAt, isWhole}
+use Rattle.kernel.specs.Pack.{soundPack}
+use Rattle.device.specs.declared.state.Device.{Device}
+use Rattle.device.specs.declared.refusal.Refusal.{Refusal}
+use Rattle.device.specs.declared.refusal.Verdict.{Verdict}
+use Rattle.device.specs.declared.refusal.Verdict.the-variants.{Sound, Refused}
+use Rattle.device.specs.declared.ready.Picked.{Picked}
+use Rattle.device.specs.declared.ready.Picked.the-variants.{Ring, Nobody}
+use Rattle.device.specs.State.{ringOf, slotOf}
+use Rattle.device.specs.Refusal.{windowFits, memoryFits, windowsFit, ringSound, stateSound, ringFits, ringsFit, verdictOf}
+use Rattle.device.specs.Ready.{readyWith, readyAt, nextRing, seek, bytesOfRing, pickOf, Steady}
+use Rattle.device.specs.Turn.{Servable}
+use Rattle.device.proofs.Seeks.{next-below}
+
+-- a test that a sound call has passed
+passed : (b : Bool) (x : Verdict) (why : Refusal) → either b x (Refused why) ≡ Sound → (b ≡ true) × (x ≡ Sound)
+unfolding either
+passed true x why e = (refl, e)
+passed false x why e = absurd (let z : _≡_ {A = ℕ} 0 1 = cc in omega arith)
+
+-- what holds of the numbers 0 to 3 holds of every number below 4
+pub each-of-four : (P : ℕ → Type 0) → P 0 → P 1 → P 2 → P 3 → (q : ℕ) → q < 4 → P q
+each-of-four P p0 p1 p2 p3 zero h = p0
+each-of-four P p0 p1 p2 p3 (suc zero) h = p1
+each-of-four P p0 p1 p2 p3 (suc (suc zero)) h = p2
+each-of-four P p0 p1 p2 p3 (suc (suc (suc zero))) h = p3
+each-of-four P p0 p1 p2 p3 (suc (suc (suc (suc q)))) h =
+    absurd (not-suc-le-zero (le-of-suc-le-suc (le-of-suc-le-suc (le-of-suc-le-suc (le-of-suc-le-suc h)))))
+
+-- four tests that all hold
+pub all-four : (P : ℕ → Bool) → (P 0 && P 1 && P 2 && P 3) ≡ true → (q : ℕ) → q < 4 → P q ≡ true
+all-four P e =
+    let e012 = both-left (P 0 && P 1 && P 2) (P 3) e in
+    let e01 = both-left (P 0 && P 1) (P 2) e012 in
+    each-of-four (λ q. P q ≡ true) (both-left (P 0) (P 1) e01) (both-right (P 0) (P 1) e01) (both-right (P 0 && P 1) (P 2) e012)
+    (both-right (P 0 && P 1 && P 2) (P 3) e)
+
+-- a picked ring is one of four and ready
+found-step : (f : ℕ → Bool) (b : Bool) (p q : ℕ) (rest : Picked) → f p ≡ b → p < 4 → (rest ≡ Ring q → (q < 4) × (f q ≡ true))
+    → either b (Ring p) rest ≡ Ring q → (q < 4) × (f q ≡ true)
+unfolding either
+found-step f true p q rest fp h further e = let same : p ≡ q = cc in (rw (← same) h, rw (← same) fp)
+found-step f false p q rest fp h further e = further e
+
+pub found : (f : ℕ → Bool) (n p q : ℕ) → p < 4 → seek f p n ≡ Ring q → (q < 4) × (f q ≡ true)
+unfolding seek
+found f zero p q h e = absurd (let z : _≡_ {A = ℕ} 0 1 = cc in omega arith)
+found f (suc n) p q h e = found-step f (f p) p q (seek f (nextRing p) n) refl h (found f n (nextRing p) q (next-below p h)) e
+
+module _ (d : Device) (memory : ℕ) (r0 r1 r2 r3 : List ℕ) (pipe : ℕ) (pack : List ℕ)
+    (sound : verdictOf d memory (length r0) (length r1) (length r2) (length r3) pipe pack ≡ Sound) where
+  after-memory : (windowsFit d memory ≡ true) × (either (stateSound d) (either (ringsFit d (length r0) (length r1) (length r2) (length r3)) (either (leb 1020 pipe) (either (soundPack pack) Sound (Refused Refusal.Pack)) (Refused Refusal.Pipe)) (Refused Refusal.Rings)) (Refused Refusal.State) ≡ Sound)
+  unfolding verdictOf
+  after-memory = passed _ _ _ sound
+
+  pub windows-fit : windowsFit d memory ≡ true
+  windows-fit = after-memory .0
+
+  pub state-sound : stateSound d ≡ true
+  state-sound = passed _ _ _ (after-memory .1) .0
+
+  pub rings-fit : ringsFit d (length r0) (length r1) (length r2) (length r3) ≡ true
+  rings-fit = passed _ _ _ (passed _ _ _ (after-memory .1) .1) .0
+
+  pub pipe-room : 1020 ≤ pipe
+  pipe-room = leb-true 1020 pipe (passed _ _ _ (passed _ _ _ (passed _ _ _ (after-memory .1) .1) .1) .0)
+
+  pub pack-sound : soundPack pack ≡ true
+  pack-sound = passed _ _ _ (passed _ _ _ (passed _ _ _ (passed _ _ _ (after-memory .1) .1) .1) .1) .0
+
+  pub steady : Steady d
+  unfolding stateSound ringSound
+  steady = record {
+    marker = omega (arith, leb-true (d .marker) 3 (both-left (leb (d .marker) 3) all-sound state-sound));
+    cursors = λ q h. leb-true _ _ (both-left _ _ (all-four (λ p. ringSound (ringOf d p)) (both-right (leb (d .marker) 3) all-sound state-sound) q h));
+  }
+    where
+      all-sound : Bool
+      all-sound = ringSound (ringOf d 0) && ringSound (ringOf d 1) && ringSound (ringOf d 2) && ringSound (ringOf d 3)
+
+  window-inside : (q : ℕ) → q < 4 → ringOf d q .window .start + ringOf d q .window .length ≤ memory
+  unfolding windowsFit memoryFits windowFits
+  window-inside q h =
+      let w = ringOf d q .window in
+      leb-true _ _ (both-right (eqb (w .start % 4) 0 && eqb (w .length % 4) 0) _
+      (all-four (λ p. windowFits memory (ringOf d p .window)) (both-right (leb memory 1048576) _ windows-fit) q h))
+
+  ring-short : (q : ℕ) → q < 4 → length (bytesOfRing q r0 r1 r2 r3) ≤ 65536
+  unfolding ringsFit ringFits bytesOfRing either
+  ring-short q h =
+      leb-true _ _ (both-left _ _ (all-four (λ p. ringFits (ringOf d p) (length (bytesOfRing p r0 r1 r2 r3))) rings-fit q h))
+
+  picked : (q : ℕ) → pickOf d r0 r1 r2 r3 ≡ Ring q → (q < 4) × (readyAt d q (bytesOfRing q r0 r1 r2 r3) ≡ true)
+  unfolding pickOf
+  picked q e = found (λ p. readyAt d p (bytesOfRing p r0 r1 r2 r3)) 4 (d .marker) q (steady .marker) e
+
+  pub servable : (q : ℕ) → pickOf d r0 r1 r2 r3 ≡ Ring q → Servable d q memory (bytesOfRing q r0 r1 r2 r3) pipe
+  unfolding readyAt
+  servable q e = record {
+    number = picked q e .0;
+    fits = window-inside q (picked q e .0);
+    cursor = steady .cursors q (picked q e .0);
+    whole = both-left _ _ (picked q e .1);
+    short = ring-short q (picked q e .0);
+    room = pipe-room;
+  }

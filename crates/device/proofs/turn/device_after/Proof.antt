@@ -1,0 +1,47 @@
+-- `device::turn::device_after` meets its contract. Assumes nothing.
+use Rattle.device.specs.Turn.{deviceAfter}
+use borrow.Author.Needs.{needs}
+use Rattle.device.proofs.turn.device_after.Statement.{statement}
+use Rattle.device.proofs.turn.device_after.Tie as tie
+
+ring-requires : tie.Need-ring-requires
+ring-requires c κs = search needs
+
+ring-after-requires : tie.Need-ring-after-requires
+ring-after-requires c κs = rw (c .ring .ensures) (c .before .pre .1)
+
+emits-fence-requires : tie.Need-emits-fence-requires
+emits-fence-requires c κs = search needs
+
+slot-requires : tie.Need-slot-requires
+slot-requires c κs = search needs
+
+with-ring-requires : tie.Need-with-ring-requires
+with-ring-requires c κs = search needs
+
+emit-to-requires : tie.Need-emit-to-requires
+emit-to-requires c κs = search needs
+
+next-ring-requires : tie.Need-next-ring-requires
+next-ring-requires c κs = search needs
+
+with-marker-requires : tie.Need-with-marker-requires
+with-marker-requires c κs = search needs
+
+returns : tie.Need-returns
+unfolding deviceAfter
+returns c = cc
+
+pub device-after-spec : {M : Type 1} → statement M
+device-after-spec =
+    tie.close
+    (tie.spec
+    ring-requires
+    ring-after-requires
+    emits-fence-requires
+    slot-requires
+    with-ring-requires
+    emit-to-requires
+    next-ring-requires
+    with-marker-requires
+    returns)

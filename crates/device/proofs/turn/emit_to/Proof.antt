@@ -1,0 +1,23 @@
+-- `device::turn::emit_to` meets its contract. Assumes nothing.
+use Rattle.device.specs.Turn.{emitTo}
+use Rattle.command.specs.Choice.{either}
+use borrow.Author.Needs.{needs}
+use Rattle.device.proofs.turn.emit_to.Statement.{statement}
+use Rattle.device.proofs.turn.emit_to.Tie as tie
+
+add-requires : tie.Need-add-requires
+add-requires c κs = search needs
+
+with-slot-requires : tie.Need-with-slot-requires
+with-slot-requires c κs = search needs
+
+returns : tie.Need-returns
+unfolding emitTo either
+returns c = rw (c .before .before .if1 .taken) (cc)
+
+returns-2 : tie.Need-returns-2
+unfolding emitTo either
+returns-2 c = rw (c .if1 .left)
+
+pub emit-to-spec : {M : Type 1} → statement M
+emit-to-spec = tie.close (tie.spec add-requires with-slot-requires returns returns-2)

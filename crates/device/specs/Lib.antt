@@ -1,0 +1,6 @@
+pub mod State
+pub mod Refusal
+pub mod Fresh
+pub mod Ready
+pub mod Turn
+pub mod Left

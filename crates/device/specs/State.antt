@@ -1,0 +1,42 @@
+-- The device's state.
+use Prim.Native.Nat.{ℕ}
+use mathlib.Core.List.{List, [], _∷_}
+use lib.ListN.{getD, set, replicate}
+use Rattle.command.specs.declared.frame.Frame.the-variants.{Unset}
+use Rattle.device.specs.declared.state.Window.{Window}
+use Rattle.device.specs.declared.state.Ring.{Ring}
+use Rattle.device.specs.declared.state.Device.{Device}
+
+-- an empty window at 0
+abbrev pub emptyWindow : Window
+emptyWindow = record { start = 0; length = 0 }
+
+-- a ring as it is when fresh: its cursor at 0, no frame
+abbrev pub freshRing : Window → Ring
+freshRing window = record { window = window; cursor = 0; frame = Unset }
+
+-- a fresh device: all 64 slots 0, the marker 0
+unfoldable pub freshDevice : Window → Window → Window → Window → Device
+freshDevice w0 w1 w2 w3 = record {
+  rings = freshRing w0 ∷ freshRing w1 ∷ freshRing w2 ∷ freshRing w3 ∷ [];
+  slots = replicate 64 0;
+  marker = 0;
+}
+
+-- ring q
+unfoldable pub ringOf : Device → ℕ → Ring
+ringOf d q = getD (d .rings) q (freshRing emptyWindow)
+
+-- the number that slot n holds
+unfoldable pub slotOf : Device → ℕ → ℕ
+slotOf d n = getD (d .slots) n 0
+
+-- the device with one ring, one slot or the marker changed
+unfoldable pub withRing : Device → ℕ → Ring → Device
+withRing d q ring = record { rings = set (d .rings) q ring; slots = d .slots; marker = d .marker }
+
+unfoldable pub withSlot : Device → ℕ → ℕ → Device
+withSlot d n number = record { rings = d .rings; slots = set (d .slots) n number; marker = d .marker }
+
+unfoldable pub withMarker : Device → ℕ → Device
+withMarker d marker = record { rings = d .rings; slots = d .slots; marker = marker }

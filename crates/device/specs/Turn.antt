@@ -1,0 +1,136 @@
+-- A turn.
+use Prim.Native.Nat.{ℕ, _+_, _%_, _^_, _≤_, _<_}
+use mathlib.Core.Path.{_≡_}
+use mathlib.Core.Bool.{Bool, true}
+use mathlib.Core.List.{List}
+use lib.ListN.{length}
+use Rattle.memory.specs.Window.{windowOf, putBack}
+use Rattle.command.specs.declared.header.Command.{Command}
+use Rattle.command.specs.declared.outcome.Outcome.{Outcome}
+use Rattle.command.specs.declared.frame.Frame.{Frame}
+use Rattle.command.specs.declared.work.Performed.{Performed}
+use Rattle.command.specs.Choice.{either}
+use Rattle.command.specs.Header.{commandAt, isWhole}
+use Rattle.command.specs.Perform.{performedOf}
+use Rattle.command.specs.Report.{emits, interrupts, wordsRead}
+use Rattle.device.specs.declared.state.Ring.{Ring}
+use Rattle.device.specs.declared.state.Device.{Device}
+use Rattle.device.specs.declared.refusal.Verdict.{Verdict}
+use Rattle.device.specs.declared.refusal.Verdict.the-variants.{Sound, Refused}
+use Rattle.device.specs.declared.ready.Picked.{Picked}
+use Rattle.device.specs.declared.ready.Picked.the-variants.{Ring as RingOf, Nobody}
+use Rattle.device.specs.declared.turn.Answer.{Answer}
+use Rattle.device.specs.declared.turn.Answer.the-variants.{Refused as RefusedFor, Idle, Served}
+use Rattle.device.specs.declared.turn.Turned.{Turned}
+use Rattle.device.specs.State.{ringOf, slotOf, withRing, withSlot, withMarker}
+use Rattle.device.specs.Refusal.{verdictOf}
+use Rattle.device.specs.Ready.{nextRing, bytesOfRing, pickOf}
+
+-- what is lent to a turn
+pub record Call : Type 0 where
+  pub memory : List ℕ
+  pub ring0 : List ℕ
+  pub ring1 : List ℕ
+  pub ring2 : List ℕ
+  pub ring3 : List ℕ
+  pub pack : List ℕ
+  pub pipe : List ℕ
+
+abbrev pub callOf : List ℕ → List ℕ → List ℕ → List ℕ → List ℕ → List ℕ → List ℕ → Call
+callOf memory ring0 ring1 ring2 ring3 pack pipe =
+    record { memory = memory; ring0 = ring0; ring1 = ring1; ring2 = ring2; ring3 = ring3; pack = pack; pipe = pipe }
+
+-- the device after a turn and its answer, and the memory and pipe that it leaves
+pub record After : Type 0 where
+  pub turned : Turned
+  pub memory : List ℕ
+  pub pipe : List ℕ
+
+-- what a function returns, and leaves in the memory and the pipe, is this
+pub record Shows (r : Turned) (m p : List ℕ) (a : After) : Type 0 where
+  pub answer : r ≡ a .turned
+  pub memory : m ≡ a .memory
+  pub pipe : p ≡ a .pipe
+
+-- a refused or idle turn changes nothing
+unfoldable pub unchanged : Device → Call → Answer → After
+unchanged d call answer = record { turned = record { device = d; answer = answer }; memory = call .memory; pipe = call .pipe }
+
+-- the number that an emit leaves in its slot
+abbrev pub emitted : ℕ → ℕ
+emitted slot = (slot + 1) % 2 ^ 32
+
+-- the reported fence: the slot's new number, or 0
+unfoldable pub fenceOf : Bool → ℕ → ℕ
+fenceOf emitting slot = either emitting (emitted slot) 0
+
+-- an emit changes its slot
+unfoldable pub emitTo : Bool → Device → ℕ → ℕ → Device
+emitTo emitting d n slot = either emitting (withSlot d n (emitted slot)) d
+
+-- a ring whose command is taken: its cursor moves past it
+unfoldable pub ringAfter : Ring → Command → Frame → Ring
+ringAfter r c frame = record { window = r .window; cursor = r .cursor + c .size; frame = frame }
+
+-- the device once ring q's command has had its outcome: the marker becomes the ring after it
+unfoldable pub deviceAfter : Device → ℕ → Command → Performed → Device
+deviceAfter d q c p =
+    withMarker
+    (emitTo (emits c (p .outcome)) (withRing d q (ringAfter (ringOf d q) c (p .frame))) (c .rdst) (slotOf d (c .rdst)))
+    (nextRing q)
+
+-- what is reported of a served command
+unfoldable pub reportOf : Device → ℕ → Command → Performed → Answer
+reportOf d q c p = Served (record {
+  ring = q;
+  outcome = p .outcome;
+  fence = fenceOf (emits c (p .outcome)) (slotOf d (c .rdst));
+  words = wordsRead c (p .outcome);
+  irq = interrupts c (p .outcome);
+})
+
+unfoldable pub finished : Device → ℕ → Command → Performed → Turned
+finished d q c p = record { device = deviceAfter d q c p; answer = reportOf d q c p }
+
+-- ring q, whose bytes are `ring`, is served: its command is taken and performed on its window
+unfoldable pub servedOf : ℕ → Device → ℕ → List ℕ → List ℕ → List ℕ → List ℕ → After
+servedOf limit d q ring memory pack pipe =
+    let r = ringOf d q in
+    let c = commandAt ring (r .cursor) in
+    let window = windowOf (r .window .start) (r .window .length) memory in
+    let p = performedOf c (slotOf d (c .rdst)) ring window (r .frame) pack pipe limit in
+    record {
+      turned = finished d q c (p .performed);
+      memory = putBack (r .window .start) (p .window) memory;
+      pipe = p .pipe;
+    }
+
+-- the first ready ring is served; if none is, the answer is idle
+unfoldable pub pickedOf : ℕ → Device → Call → Picked → After
+pickedOf limit d call (RingOf q) =
+    servedOf limit d q (bytesOfRing q (call .ring0) (call .ring1) (call .ring2) (call .ring3)) (call .memory) (call .pack) (call .pipe)
+pickedOf limit d call Nobody = unchanged d call Idle
+
+-- a call that is not refused takes its turn
+unfoldable pub judgedOf : ℕ → Device → Call → Verdict → After
+judgedOf limit d call Sound = pickedOf limit d call (pickOf d (call .ring0) (call .ring1) (call .ring2) (call .ring3))
+judgedOf limit d call (Refused why) = unchanged d call (RefusedFor why)
+
+-- the verdict on a call
+unfoldable pub verdictOn : Device → Call → Verdict
+verdictOn d call =
+    verdictOf d (length (call .memory)) (length (call .ring0)) (length (call .ring1)) (length (call .ring2)) (length (call .ring3))
+    (length (call .pipe)) (call .pack)
+
+-- a turn
+unfoldable pub turnOf : ℕ → Device → Call → After
+turnOf limit d call = judgedOf limit d call (verdictOn d call)
+
+-- what the device's checks give a ring that is served
+pub record Servable (d : Device) (q : ℕ) (memory : ℕ) (ring : List ℕ) (pipe : ℕ) : Type 0 where
+  pub number : q < 4
+  pub fits : ringOf d q .window .start + ringOf d q .window .length ≤ memory
+  pub cursor : ringOf d q .cursor ≤ 65536
+  pub whole : isWhole ring (ringOf d q .cursor) ≡ true
+  pub short : length ring ≤ 65536
+  pub room : 1020 ≤ pipe

@@ -1,0 +1,6 @@
+// The device: its state, the refusals of a call, and a turn.
+pub mod fresh;
+pub mod ready;
+pub mod refusal;
+pub mod state;
+pub mod turn;

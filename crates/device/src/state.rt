@@ -1,0 +1,92 @@
+// The device's state. A `Device` is made in one place, and otherwise a copy is changed field by field.
+ghost use mathlib.Core.Path.{_≡_};
+ghost use Prim.Native.Nat.{_<_};
+ghost use Rattle.device.specs.State.{emptyWindow, freshRing, freshDevice, ringOf, slotOf, withRing, withSlot, withMarker};
+use command::frame::Frame;
+
+// A ring's part of the memory.
+pub struct Window {
+    pub start: u32,
+    pub length: u32,
+}
+
+pub struct Ring {
+    pub window: Window,
+    pub cursor: u32,
+    pub frame: Frame,
+}
+
+pub struct Device {
+    pub rings: [Ring; 4],
+    pub slots: [u32; 64],
+    pub marker: u32,
+}
+
+fn fresh_ring(window: Window) -> Ring
+    ensures { λ r. ⌜ r ≡ freshRing window ⌝ }
+{
+    Ring {
+        window,
+        cursor: 0,
+        frame: Frame::Unset,
+    }
+}
+
+impl Device {
+    pub fn fresh(w0: Window, w1: Window, w2: Window, w3: Window) -> Self
+        ensures { λ r. ⌜ r ≡ freshDevice w0 w1 w2 w3 ⌝ }
+    {
+        let rings = [
+            fresh_ring(w0),
+            fresh_ring(w1),
+            fresh_ring(w2),
+            fresh_ring(w3),
+        ];
+        Device {
+            rings,
+            slots: [0; 64],
+            marker: 0,
+        }
+    }
+
+    pub fn ring(self, q: u32) -> Ring
+        requires { ⌜ q < 4 ⌝ }
+        ensures { λ r. ⌜ r ≡ ringOf self q ⌝ }
+    {
+        let at = q as usize;
+        self.rings[at]
+    }
+
+    pub fn slot(self, n: u8) -> u32
+        ensures { λ r. ⌜ r ≡ slotOf self n ⌝ }
+    {
+        let at = n as usize;
+        if at < 64 { self.slots[at] } else { 0 }
+    }
+
+    pub fn with_ring(mut self, q: u32, ring: Ring) -> Self
+        requires { ⌜ q < 4 ⌝ }
+        ensures { λ r. ⌜ r ≡ withRing self q ring ⌝ }
+    {
+        let at = q as usize;
+        self.rings[at] = ring;
+        self
+    }
+
+    pub fn with_slot(mut self, n: u8, number: u32) -> Self
+        ensures { λ r. ⌜ r ≡ withSlot self n number ⌝ }
+    {
+        let at = n as usize;
+        if at < 64 {
+            self.slots[at] = number;
+        }
+        self
+    }
+
+    pub fn with_marker(mut self, marker: u32) -> Self
+        ensures { λ r. ⌜ r ≡ withMarker self marker ⌝ }
+    {
+        self.marker = marker;
+        self
+    }
+}
