@@ -18,7 +18,6 @@ use command::frame::Frame;
 use command::header::Command;
 use command::header::command_at;
 use command::outcome::Outcome;
-use command::perform::Performed;
 use command::perform::perform;
 use command::report::emits_fence;
 use command::report::raises_irq;
