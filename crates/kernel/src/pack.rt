@@ -56,7 +56,11 @@ pub fn is_sound(pack: &[u8]) -> bool
     let code = code_count(pack);
     let size = 8 + 8 * kernels as usize + 4 * code as usize;
     let counts = both(kernels <= MOST_KERNELS, code <= MOST_CODE);
-    both(both(counts, pack.len() == size), all_lie(pack, kernels))
+    // A count that is too large is not looped over.
+    if both(counts, pack.len() == size) {
+        return all_lie(pack, kernels);
+    }
+    false
 }
 
 pub fn kernel_at(pack: &[u8], k: u32) -> Kernel

@@ -46,14 +46,15 @@ perform-requires c κs =
     let s = c .before .before .before .before .before .before .before .before .before .before .before .before .before in
     record {
       payload = rw (c .before .before .before .before .before .before .command-at .ensures, c .before .before .before .before .before .before .before .before .ring .ensures) (payload-inside _ _ (s .pre .whole));
-      room = s .pre .room }
+      room = s .pre .room;
+    }
 
 finish-requires : tie.Need-finish-requires
 finish-requires c κs =
     let s = c .before .before .before .before .before .before .before .before .before .before .before .before .before .before .before .before .before .before in (
       s .pre .number,
       rw (c .before .before .before .before .before .before .before .before .before .before .before .command-at .ensures, c .before .before .before .before .before .before .before .before .before .before .before .before .before .ring .ensures)
-      (omega (arith, whole-inside _ _ (s .pre .whole), s .pre .short)),
+          (omega (arith, whole-inside _ _ (s .pre .whole), s .pre .short)),
     )
 
 same-length : tie.Need-same-length

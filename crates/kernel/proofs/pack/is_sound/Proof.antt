@@ -37,12 +37,16 @@ both-requires-2 c κs = search needs
 all-lie-requires : tie.Need-all-lie-requires
 all-lie-requires c κs = search needs
 
-both-requires-3 : tie.Need-both-requires-3
-both-requires-3 c κs = search needs
-
 returns : tie.Need-returns
 unfolding soundPack
-returns c = cc
+returns c =
+    rw (← c .before .before .before .before .before .kernel-count .ensures, ← c .before .before .before .before .code-count .ensures, ← c .before .before .before .both .ensures, ← c .before .before .both2 .ensures, c .before .if1 .taken)
+    (c .all-lie .ensures)
+
+returns-2 : tie.Need-returns-2
+unfolding soundPack
+returns-2 c =
+    rw (← c .before .before .before .before .kernel-count .ensures, ← c .before .before .before .code-count .ensures, ← c .before .before .both .ensures, ← c .before .both2 .ensures, c .if1 .left)
 
 pub is-sound-spec : {M : Type 1} → statement M
 is-sound-spec =
@@ -59,5 +63,5 @@ is-sound-spec =
     both-requires
     both-requires-2
     all-lie-requires
-    both-requires-3
-    returns)
+    returns
+    returns-2)
