@@ -9,3 +9,5 @@ pub mod Inside
 pub mod Works
 pub mod Faultless
 pub mod Performs
+pub mod Numbers
+pub mod Kept
