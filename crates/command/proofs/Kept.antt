@@ -1,9 +1,8 @@
 -- What every command keeps: the lengths of the window and the pipe, that their numbers are bytes, and that a frame passes its test.
 -- Assumes nothing.
 use mathlib.Core.Path.{_≡_, refl}
-use mathlib.Core.Bool.{Bool, true, false}
+use mathlib.Core.Bool.{true}
 use mathlib.Core.List.{List}
-use mathlib.Core.Logic.{_⊎_, inl, inr}
 use Prim.Native.Nat.{ℕ}
 use lib.ListN.{length}
 use Rattle.memory.proofs.Lengths.{filled-length, copied-length, blitted-length, transferred-length}
@@ -19,8 +18,8 @@ use Rattle.command.specs.Table.{rowOf}
 use Rattle.command.specs.Frame.{frameFault, heldFault}
 use Rattle.command.specs.Shape.{isRectangle}
 use Rattle.command.specs.Checks.{misaligned, unframed, outside, unfitFrame, unfitDispatch, checkOf}
-use Rattle.command.specs.Work.{Left, leaves, dispatchedBy, afterDispatch, heldBy, workOf}
-use Rattle.command.specs.Perform.{faultOf, performedOf}
+use Rattle.command.specs.Work.{Left, leaves, dispatchedBy, afterDispatch, heldBy}
+use Rattle.command.specs.Perform.{performedOf}
 use Rattle.command.proofs.Faultless.{check-done}
 use Rattle.command.proofs.Works.{work-has}
 use Rattle.command.proofs.Performs.{performed-has}

@@ -11,3 +11,5 @@ pub mod Faultless
 pub mod Performs
 pub mod Numbers
 pub mod Kept
+pub mod Reports
+pub mod Rings

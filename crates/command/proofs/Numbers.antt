@@ -1,21 +1,17 @@
 -- Which outcomes the faults and the work give.
 -- Assumes nothing.
 use mathlib.Core.Path.{_≡_, refl}
-use mathlib.Core.Bool.{false}
 use mathlib.Core.List.{List}
 use mathlib.Core.Logic.{_⊎_, inl, inr}
-use Prim.Native.Nat.{ℕ, _≤_, _<_}
-use native.Mathlib.Omega.{arith}
-use lib.Dec.{eqb, lit≤}
-use borrow.Author.Tests.{eqb-false}
+use Prim.Native.Nat.{ℕ, _≤_}
+use lib.Dec.{lit≤}
 use Rattle.instruction.specs.declared.effect.Stop.the-variants.{NotListed, OffTheKernel, OutsideTheWindow, OutOfSteps}
 use Rattle.kernel.specs.declared.dispatch.Ran.{Ran}
 use Rattle.kernel.specs.declared.dispatch.Ran.the-variants.{Done, Stopped}
 use Rattle.command.specs.declared.outcome.Outcome.{Outcome}
-use Rattle.command.specs.declared.outcome.Outcome.the-variants.{SlotFull}
 use Rattle.command.specs.declared.header.Command.{Command}
 use Rattle.command.specs.declared.frame.Frame.{Frame}
-use Rattle.command.specs.Outcome.{outcomeNumber, isDone}
+use Rattle.command.specs.Outcome.{outcomeNumber}
 use Rattle.command.specs.Faults.{headerFault}
 use Rattle.command.specs.Checks.{slotFault, checkOf}
 use Rattle.command.specs.Work.{leaves, ranOutcome, afterDispatch, workOf}
