@@ -9,7 +9,7 @@ use lib.ListN.{length, getD}
 use borrow.Author.Tests.{le-leb}
 use Rattle.memory.specs.Place.{wordAt}
 use Rattle.command.specs.Flags.{waitBit}
-use Rattle.command.specs.Header.{waitSize, payloadSize, targetAt, commandAt, isWhole}
+use Rattle.command.specs.Header.{waitSize, targetAt, commandAt, isWhole}
 
 -- two rings agree on the bytes from a up to b
 abbrev pub Agree : List ℕ → List ℕ → ℕ → ℕ → Type 0

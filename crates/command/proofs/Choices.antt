@@ -47,3 +47,9 @@ module _ {A : Type 0} where
   pub passed : (b : Bool) (x y : A) {z : A} → b ≡ false → z ≡ y → z ≡ either b x y
   unfolding either
   passed b x y e h = rw e h
+
+  -- what holds of both, each where it is chosen, holds of the choice
+  pub either-has : (P : A → Type 0) (b : Bool) {x y : A} → (b ≡ true → P x) → (b ≡ false → P y) → P (either b x y)
+  unfolding either
+  either-has P true hx hy = hx refl
+  either-has P false hx hy = hy refl

@@ -9,3 +9,7 @@ pub mod Inside
 pub mod Works
 pub mod Faultless
 pub mod Performs
+pub mod Numbers
+pub mod Kept
+pub mod Reports
+pub mod Rings

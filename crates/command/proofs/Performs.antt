@@ -10,8 +10,9 @@ use Rattle.command.specs.declared.outcome.Outcome.{Outcome}
 use Rattle.command.specs.declared.header.Command.{Command}
 use Rattle.command.specs.declared.frame.Frame.{Frame}
 use Rattle.command.specs.Outcome.{isDone}
-use Rattle.command.specs.Work.{leaves, workOf}
+use Rattle.command.specs.Work.{Left, leaves, workOf}
 use Rattle.command.specs.Perform.{faultOf, guarded, performedOf}
+use Rattle.command.proofs.Choices.{either-has}
 
 module _ (c : Command) (slot : ℕ) (ring window : List ℕ) (frame : Frame) (pack pipe : List ℕ) (limit : ℕ) where
   abbrev pub faultHere : Outcome
@@ -24,3 +25,9 @@ module _ (c : Command) (slot : ℕ) (ring window : List ℕ) (frame : Frame) (pa
   pub performed-fault : isDone faultHere ≡ false → performedOf c slot ring window frame pack pipe limit ≡ leaves faultHere frame window pipe
   unfolding performedOf guarded either
   performed-fault e = rw e
+
+  -- what the work has, and the fault alone, the command has
+  pub performed-has : (P : Left → Type 0) → (isDone faultHere ≡ true → P (workOf c ring window frame pack pipe limit))
+      → (isDone faultHere ≡ false → P (leaves faultHere frame window pipe)) → P (performedOf c slot ring window frame pack pipe limit)
+  unfolding performedOf guarded
+  performed-has P work fault = either-has P _ work fault

@@ -4,7 +4,7 @@ use Prim.Native.Nat.{ℕ, _-_, _*_, _^_, _≤_, _<_}
 use native.Mathlib.Nat.{mul-le-mul}
 use native.Mathlib.Omega.{arith}
 use Rattle.command.specs.declared.header.Command.{Command}
-use Rattle.command.specs.Shape.{sizeOf, widthOf, heightOf}
+use Rattle.command.specs.Shape.{widthOf, heightOf}
 
 pub width-fits : (c : Command) → widthOf c < 2 ^ 16
 unfolding widthOf

@@ -32,6 +32,11 @@ frameFault base stride format length =
     (either (frameUnfit stride format) BadFrame
     Done))
 
+-- the test of a frame that a ring has; an unset frame passes it
+unfoldable pub heldFault : Frame → ℕ → Outcome
+heldFault Unset length = Done
+heldFault (Held base stride format) length = frameFault base stride format length
+
 -- a frame's stride; 0 of no frame
 unfoldable pub strideOf : Frame → ℕ
 strideOf Unset = 0

@@ -1,7 +1,6 @@
 -- The work of the commands, on the ring's window, the pipe and the frame.
 use Prim.Native.Nat.{ℕ, _*_}
 use mathlib.Core.Path.{_≡_}
-use mathlib.Core.Bool.{Bool}
 use mathlib.Core.List.{List}
 use lib.Dec.{eqb}
 use Rattle.memory.specs.Rectangle.{filled}

@@ -1,6 +1,6 @@
 // A ring's frame, and the test that SET_FB makes of one.
 ghost use mathlib.Core.Path.{_≡_};
-ghost use Rattle.command.specs.Frame.{notAMultiple, frameMisaligned, frameOutside, frameUnfit, frameFault, strideOf};
+ghost use Rattle.command.specs.Frame.{notAMultiple, frameMisaligned, frameOutside, frameUnfit, frameFault, heldFault, strideOf};
 use crate::choice::one_of;
 use crate::outcome::Outcome;
 
@@ -33,7 +33,6 @@ pub fn frame_unfit(stride: u32, format: u32) -> bool
     one_of(one_of(stride < 4, 65536 < stride), format != 0)
 }
 
-// Also the test of a frame that a device holds.
 pub fn frame_fault(base: u32, stride: u32, format: u32, length: usize) -> Outcome
     ensures { λ r. ⌜ r ≡ frameFault base stride format length ⌝ }
 {
@@ -47,6 +46,20 @@ pub fn frame_fault(base: u32, stride: u32, format: u32, length: usize) -> Outcom
         return Outcome::BadFrame;
     }
     Outcome::Done
+}
+
+// The same test of a frame that a ring has; an unset frame passes it.
+pub fn held_fault(frame: Frame, length: usize) -> Outcome
+    ensures { λ r. ⌜ r ≡ heldFault frame length ⌝ }
+{
+    match frame {
+        Frame::Unset => Outcome::Done,
+        Frame::Held {
+            base,
+            stride,
+            format,
+        } => frame_fault(base, stride, format, length),
+    }
 }
 
 // 0 of no frame.

@@ -23,7 +23,7 @@ pub fn raises_irq(command: Command, outcome: Outcome) -> bool
     ensures { λ r. ⌜ r ≡ interrupts command outcome ⌝ }
 {
     let n = number(outcome);
-    both(flags::irq(command.flags), one_of(n == 0, 4 < n))
+    both(flags::irq(command.flags), one_of(n == 0, 5 <= n))
 }
 
 pub fn words_read(command: Command, outcome: Outcome) -> u32

@@ -1,7 +1,6 @@
 -- `command::header::command_at` meets its contract. Assumes nothing.
 use native.Mathlib.Omega.{arith}
 use Rattle.command.proofs.Sizes.{wait-size-most, payload-size-most}
-use Prim.Native.Nat.{_*_, _≤_}
 use Rattle.command.specs.Header.{commandAt}
 use borrow.Author.Needs.{needs}
 use Rattle.command.proofs.header.command_at.Statement.{statement}

@@ -1,5 +1,4 @@
 -- `command::outcome::is_done` meets its contract. Assumes nothing.
-use Rattle.command.specs.Outcome.{outcomeNumber}
 use borrow.Author.Needs.{needs}
 use Rattle.command.proofs.outcome.is_done.Statement.{statement}
 use Rattle.command.proofs.outcome.is_done.Tie as tie

@@ -1,7 +1,7 @@
 -- `command::perform::perform` meets its contract. Assumes nothing.
 use denote.Ref.{now}
 use lib.ListN.{length}
-use mathlib.Core.Path.{_∙_, sym, refl}
+use mathlib.Core.Path.{_∙_, refl}
 use Rattle.command.specs.Work.{leaves}
 use Rattle.command.proofs.Faultless.{payload-as-in-table, not-outside, header-done, check-done}
 use Rattle.command.proofs.Performs.{performed-work, performed-fault}

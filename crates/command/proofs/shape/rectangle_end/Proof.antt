@@ -1,6 +1,6 @@
 -- `command::shape::rectangle_end` meets its contract. Assumes nothing.
 use Rattle.memory.specs.Rectangle.{rectangleEnd}
-use borrow.Author.Tests.{eq-eqb, ne-eqb}
+use borrow.Author.Tests.{ne-eqb}
 use native.Mathlib.Omega.{arith}
 use Rattle.command.proofs.Shapes.{rows-fit}
 use borrow.Author.Needs.{needs}

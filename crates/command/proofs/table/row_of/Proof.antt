@@ -1,5 +1,5 @@
 -- `command::table::row_of` meets its contract. Assumes nothing.
-use Rattle.command.specs.Table.{rowOf, entryOf}
+use Rattle.command.specs.Table.{rowOf}
 use Rattle.command.proofs.Entries.{entry-row}
 use borrow.Author.Needs.{needs}
 use Rattle.command.proofs.table.row_of.Statement.{statement}
