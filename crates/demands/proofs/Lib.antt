@@ -1,0 +1,4 @@
+pub mod Turns
+pub mod Devices
+pub mod Walks
+pub mod FourTurns

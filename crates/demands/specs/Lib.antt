@@ -1,0 +1,3 @@
+pub mod Performs
+pub mod Calls
+pub mod FourTurns
