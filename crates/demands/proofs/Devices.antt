@@ -12,6 +12,7 @@ use Rattle.command.specs.declared.header.Command.{Command}
 use Rattle.command.specs.declared.perform.Performed.{Performed}
 use Rattle.command.specs.Choice.{either}
 use Rattle.command.specs.Report.{emits}
+use Rattle.device.specs.declared.state.Ring.{Ring}
 use Rattle.device.specs.declared.state.Device.{Device}
 use Rattle.device.specs.State.{emptyWindow, freshRing, ringOf, slotOf, withRing, withSlot, withMarker}
 use Rattle.device.specs.Ready.{nextRing}
@@ -33,6 +34,15 @@ put-below k (x ∷ xs) zero v zero h new = new
 put-below k (x ∷ xs) zero v (suc m) h new = h
 put-below k (x ∷ xs) (suc n) v zero h new = h
 put-below k (x ∷ xs) (suc n) v (suc m) h new = put-below k xs n v m h new
+
+-- a ring put in its place with the frame that was there changes no frame
+put-frame : (xs : List Ring) (q : ℕ) (ring : Ring) (n : ℕ) → ring .frame ≡ getD xs q (freshRing emptyWindow) .frame
+    → getD (set xs q ring) n (freshRing emptyWindow) .frame ≡ getD xs n (freshRing emptyWindow) .frame
+put-frame [] q ring n same = refl
+put-frame (x ∷ xs) zero ring zero same = same
+put-frame (x ∷ xs) zero ring (suc n) same = refl
+put-frame (x ∷ xs) (suc q) ring zero same = refl
+put-frame (x ∷ xs) (suc q) ring (suc n) same = put-frame xs q ring n same
 
 -- an emit changes no ring
 pub emit-rings : (b : Bool) (d : Device) (n slot : ℕ) → emitTo b d n slot .rings ≡ d .rings
@@ -78,3 +88,8 @@ module _ (d : Device) (q : ℕ) (c : Command) (p : Performed) where
   pub after-fits : SlotsFit d → SlotsFit (deviceAfter d q c p)
   unfolding deviceAfter withMarker withRing slotOf SlotsFit
   after-fits fit = emit-below (emits c (p .outcome)) (withRing d q (ringAfter (ringOf d q) c (p .frame))) (c .rdst) (slotOf d (c .rdst)) fit
+
+  -- the frames stay where the command leaves its ring's
+  pub after-frames : p .frame ≡ ringOf d q .frame → (n : ℕ) → ringOf (deviceAfter d q c p) n .frame ≡ ringOf d n .frame
+  unfolding ringOf ringAfter
+  after-frames same n = rw after-rings (put-frame (d .rings) q (ringAfter (ringOf d q) c (p .frame)) n same)

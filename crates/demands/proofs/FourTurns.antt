@@ -33,7 +33,7 @@ use Rattle.device.proofs.Verdicts.{steady}
 use Rattle.device.proofs.Wholes.{whole-inside}
 use Rattle.demands.specs.Calls.{ringIn, answerOf, deviceOf, isRefused, ServesRing, SlotsFit, heard, EachHeard, none, more, Serves, here, later}
 use Rattle.demands.specs.FourTurns.{SameHead, FourTurns, FourTurnsByHead}
-use Rattle.demands.specs.Performs.{FullSlotStays}
+use Rattle.demands.specs.Performs.{EachWork, FullSlotStays}
 use Rattle.demands.proofs.Turns.{pickIn, servedIn, turn-cases}
 use Rattle.demands.proofs.Devices.{after-marker, after-other-ring, after-rises, after-fits}
 use Rattle.demands.proofs.Walks.{walk, walk-next, walk-rest, seek-reaches, distance}
@@ -89,7 +89,7 @@ module _ (q : ℕ) (b : List ℕ) (k : ℕ) where
   module _ (full : FullSlotStays) (limit : ℕ) (d : Device) (call : Call) (j : ℕ) (w : Waiting j d) where
     -- another ring, i further than the marker, is served
     passed-by : (i : ℕ) → i < j → (walk i (d .marker) ≡ q → ⊥) → Step j d (servedIn limit d call (walk i (d .marker)) .turned .answer) (servedIn limit d call (walk i (d .marker)) .turned .device)
-    unfolding servedOf finished reportOf isRefused FullSlotStays
+    unfolding servedOf finished reportOf isRefused FullSlotStays EachWork
     passed-by i less other =
         let r = walk i (d .marker) in
         let c = commandAt (ringIn call r) (ringOf d r .cursor) in

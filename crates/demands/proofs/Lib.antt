@@ -2,3 +2,4 @@ pub mod Turns
 pub mod Devices
 pub mod Walks
 pub mod FourTurns
+pub mod Keeps

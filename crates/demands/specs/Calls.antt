@@ -3,7 +3,10 @@ use Prim.Native.Nat.{ℕ, _+_, _^_, _<_}
 use mathlib.Core.Path.{_≡_}
 use mathlib.Core.Bool.{Bool, true, false}
 use mathlib.Core.List.{List, [], _∷_}
+use lib.ListN.{length}
+use Rattle.command.specs.declared.header.Command.{Command}
 use Rattle.command.specs.Choice.{either}
+use Rattle.command.specs.Header.{commandAt}
 use Rattle.device.specs.declared.state.Device.{Device}
 use Rattle.device.specs.declared.turn.Report.{Report}
 use Rattle.device.specs.declared.turn.Answer.{Answer}
@@ -15,6 +18,10 @@ use Rattle.device.specs.Turn.{Call, turnOf}
 -- the bytes of ring q that a call lends
 abbrev pub ringIn : Call → ℕ → List ℕ
 ringIn call q = bytesOfRing q (call .ring0) (call .ring1) (call .ring2) (call .ring3)
+
+-- the command at ring q's cursor
+abbrev pub headIn : Device → Call → ℕ → Command
+headIn d call q = commandAt (ringIn call q) (ringOf d q .cursor)
 
 -- a call's answer, and the device that it leaves
 abbrev pub answerOf : ℕ → Device → Call → Answer
@@ -37,6 +44,12 @@ pub record ServesRing (q : ℕ) (answer : Answer) : Type 0 where
 -- each slot holds a 32-bit number, as those of every device do
 unfoldable pub SlotsFit : Device → Type 0
 SlotsFit d = (n : ℕ) → slotOf d n < 2 ^ 32
+
+-- what every device has by its type
+pub record Formed (d : Device) : Type 0 where
+  pub slots : SlotsFit d
+  pub sixty-four : length (d .slots) ≡ 64
+  pub four : length (d .rings) ≡ 4
 
 -- how many of the calls are not refused
 unfoldable pub heard : ℕ → Device → List Call → ℕ

@@ -1,3 +1,5 @@
 pub mod Performs
 pub mod Calls
+pub mod Keeps
+pub mod Reports
 pub mod FourTurns
