@@ -6,7 +6,7 @@ use mathlib.Core.List.{List, [], _∷_}
 use Prim.Native.Nat.{ℕ, zero, suc, _+_, _%_, _^_, _≤_, _<_}
 use native.Mathlib.Nat.{le-refl}
 use native.Mathlib.Omega.{arith}
-use lib.ListN.{length, getD, set}
+use lib.ListN.{length, getD, set, length-set}
 use lib.Seq.{getD-set-same, getD-set-other}
 use Rattle.command.specs.declared.header.Command.{Command}
 use Rattle.command.specs.declared.perform.Performed.{Performed}
@@ -17,7 +17,7 @@ use Rattle.device.specs.declared.state.Device.{Device}
 use Rattle.device.specs.State.{emptyWindow, freshRing, ringOf, slotOf, withRing, withSlot, withMarker}
 use Rattle.device.specs.Ready.{nextRing}
 use Rattle.device.specs.Turn.{emitted, emitTo, ringAfter, deviceAfter}
-use Rattle.demands.specs.Calls.{SlotsFit}
+use Rattle.demands.specs.Calls.{SlotsFit, Formed}
 
 -- a number put in one place of a list, no less than what it held, lowers no place
 put-rises : (xs : List ℕ) (n v m : ℕ) → getD xs n 0 ≤ v → getD xs m 0 ≤ getD (set xs n v) m 0
@@ -93,3 +93,32 @@ module _ (d : Device) (q : ℕ) (c : Command) (p : Performed) where
   pub after-frames : p .frame ≡ ringOf d q .frame → (n : ℕ) → ringOf (deviceAfter d q c p) n .frame ≡ ringOf d n .frame
   unfolding ringOf ringAfter
   after-frames same n = rw after-rings (put-frame (d .rings) q (ringAfter (ringOf d q) c (p .frame)) n same)
+
+  -- the served ring has its cursor past the command
+  pub after-ring : q < length (d .rings) → ringOf (deviceAfter d q c p) q ≡ ringAfter (ringOf d q) c (p .frame)
+  unfolding ringOf
+  after-ring inside = rw after-rings (getD-set-same (d .rings) q _ (freshRing emptyWindow) inside)
+
+  -- an emit puts the new number in its slot, and nothing else changes a slot
+  pub after-emit : emits c (p .outcome) ≡ true → deviceAfter d q c p .slots ≡ set (d .slots) (c .rdst) (emitted (slotOf d (c .rdst)))
+  unfolding deviceAfter withMarker withRing emitTo either withSlot
+  after-emit e = rw e
+
+  pub after-no-emit : emits c (p .outcome) ≡ false → deviceAfter d q c p .slots ≡ d .slots
+  unfolding deviceAfter withMarker withRing emitTo either withSlot
+  after-no-emit e = rw e
+
+  pub after-other-slot : (n : ℕ) → (n ≡ c .rdst → ⊥) → slotOf (deviceAfter d q c p) n ≡ slotOf d n
+  unfolding slotOf
+  after-other-slot n other = go (emits c (p .outcome)) refl
+    where
+      go : (b : Bool) → emits c (p .outcome) ≡ b → getD (deviceAfter d q c p .slots) n 0 ≡ getD (d .slots) n 0
+      go true e = rw (after-emit e) (getD-set-other (d .slots) (c .rdst) n _ 0 other)
+      go false e = rw (after-no-emit e)
+
+  pub after-formed : Formed d → Formed (deviceAfter d q c p)
+  after-formed formed = record { slots = after-fits (formed .slots); sixty-four = slots-kept (emits c (p .outcome)) refl ∙ formed .sixty-four; four = rw after-rings (simp length-set (formed .four)) }
+    where
+      slots-kept : (b : Bool) → emits c (p .outcome) ≡ b → length (deviceAfter d q c p .slots) ≡ length (d .slots)
+      slots-kept true e = rw (after-emit e) (simp length-set)
+      slots-kept false e = rw (after-no-emit e)

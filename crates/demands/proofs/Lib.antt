@@ -3,3 +3,4 @@ pub mod Devices
 pub mod Walks
 pub mod FourTurns
 pub mod Keeps
+pub mod Reports
