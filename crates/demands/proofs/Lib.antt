@@ -4,3 +4,5 @@ pub mod Walks
 pub mod FourTurns
 pub mod Keeps
 pub mod Reports
+pub mod Sums
+pub mod Bounded

@@ -3,3 +3,5 @@ pub mod Calls
 pub mod Keeps
 pub mod Reports
 pub mod FourTurns
+pub mod Bounded
+pub mod Idle
