@@ -6,3 +6,5 @@ pub mod Keeps
 pub mod Reports
 pub mod Sums
 pub mod Bounded
+pub mod Orders
+pub mod Idle

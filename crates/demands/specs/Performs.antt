@@ -1,12 +1,14 @@
 -- What the demands rest on of a command's work.
 use Prim.Native.Nat.{ℕ, _≤_, _<_}
 use mathlib.Core.Path.{_≡_}
-use mathlib.Core.Bool.{true}
+use mathlib.Core.Bool.{true, _&&_}
 use mathlib.Core.List.{List}
 use lib.ListN.{length}
 use Rattle.command.specs.declared.header.Command.{Command}
 use Rattle.command.specs.declared.frame.Frame.{Frame}
-use Rattle.command.specs.Outcome.{outcomeNumber}
+use Rattle.command.specs.Outcome.{outcomeNumber, isDone}
+use Rattle.command.specs.Faults.{headerFault}
+use Rattle.command.specs.Flags.{emitBit}
 use Rattle.command.specs.Perform.{Performance, performedOf}
 use Rattle.command.specs.Report.{emits}
 
@@ -23,6 +25,12 @@ FullSlotStays = EachWork (λ c slot window frame pipe p. emits c (p .performed .
 -- a command that emits has one of the 64 slots
 unfoldable pub EmitsInRange : Type 0
 EmitsInRange = EachWork (λ c slot window frame pipe p. emits c (p .performed .outcome) ≡ true → c .rdst < 64)
+
+-- unless its slot is full, a command emits exactly if its emit bit is set and it has no header fault
+unfoldable pub EmitsWhenSound : Type 0
+EmitsWhenSound =
+    EachWork (λ c slot window frame pipe p.
+    (slot ≡ 4294967295 → ⊥) → emits c (p .performed .outcome) ≡ (emitBit (c .flags) && isDone (headerFault c)))
 
 -- the window keeps its length
 unfoldable pub WindowStays : Type 0

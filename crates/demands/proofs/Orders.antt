@@ -1,0 +1,99 @@
+-- Laws of the places and counts that an order of starts goes by.
+-- Assumes nothing.
+use mathlib.Core.Path.{_≡_, refl, sym, ap, _∙_}
+use mathlib.Core.Bool.{Bool, true, false, not, _&&_, _||_}
+use mathlib.Core.List.{List}
+use mathlib.Core.Logic.{⊎-elim}
+use Prim.Native.Nat.{ℕ, zero, suc, _+_, _*_, _≤_, _<_}
+use native.Mathlib.Nat.{eq-or-lt-of-le, le-of-suc-le-suc, le-refl}
+use native.Mathlib.Omega.{arith}
+use lib.Dec.{eqb, ltb}
+use borrow.Author.Tests.{eqb-true, eq-eqb, ne-eqb, ltb-false}
+use Rattle.command.specs.declared.header.Command.{Command}
+use Rattle.command.specs.declared.outcome.Outcome.the-variants.{Done, UnknownOpcode, ReservedFlag, WrongPayloadBit, NoSuchSlot}
+use Rattle.command.specs.Choice.{differ, either}
+use Rattle.command.specs.Faults.{headerFault}
+use Rattle.command.specs.Flags.{emitBit, waitBit, payloadBit, reservedBit}
+use Rattle.command.specs.Outcome.{outcomeNumber, isDone}
+use Rattle.command.specs.Table.{rowOf}
+use Rattle.command.proofs.Choices.{both-left, both-right}
+use Rattle.command.proofs.Sizes.{size-least}
+use Rattle.demands.specs.Bounded.{sumOfFour}
+use Rattle.demands.specs.Idle.{placeOf, nth, isEmitting, emitsIn, countOf, oneMore}
+use Rattle.demands.proofs.Sums.{sum-grows, sum-most}
+
+-- a command with no header fault that emits has one of the 64 slots
+no-fault : (unknown reserved payload slot : Bool)
+    → isDone (either unknown UnknownOpcode (either reserved ReservedFlag (either payload WrongPayloadBit (either slot NoSuchSlot Done)))) ≡ true
+    → slot ≡ false
+unfolding either outcomeNumber
+no-fault true reserved payload slot e = cc
+no-fault false true payload slot e = cc
+no-fault false false true slot e = cc
+no-fault false false false true e = cc
+no-fault false false false false e = refl
+
+fits : (emit wait : Bool) (rdst : ℕ) → emit ≡ true → ((emit || wait) && ltb 63 rdst) ≡ false → rdst < 64
+fits true wait rdst set e = omega (arith, ltb-false 63 rdst e)
+fits false wait rdst set e = absurd (let z : _≡_ {A = ℕ} 0 1 = cc in omega arith)
+
+pub emitting-slot : (c : Command) → isEmitting c ≡ true → c .rdst < 64
+unfolding isEmitting headerFault
+emitting-slot c e =
+    fits (emitBit (c .flags)) (waitBit (c .flags)) (c .rdst) (both-left (emitBit (c .flags)) (isDone (headerFault c)) e)
+    (no-fault (not (rowOf (c .opcode) .known)) (reservedBit (c .flags)) (differ (payloadBit (c .flags)) (rowOf (c .opcode) .payload)) _
+    (both-right (emitBit (c .flags)) (isDone (headerFault c)) e))
+
+-- 1 if the command emits to the slot, else 0
+abbrev pub hit : Command → ℕ → ℕ
+hit c slot = either (isEmitting c && eqb (c .rdst) slot) 1 0
+
+hit-most : (b : Bool) → either b 1 0 ≤ 1
+unfolding either
+hit-most true = le-refl 1
+hit-most false = omega arith
+
+module _ (b : List ℕ) where
+  -- each command takes at least 16 bytes
+  pub place-least : (n : ℕ) → 16 * n ≤ placeOf b n
+  unfolding placeOf
+  place-least zero = omega arith
+  place-least (suc n) = omega (arith, place-least n, size-least b (placeOf b n))
+
+  pub emits-most : (slot n : ℕ) → emitsIn b slot n ≤ n
+  unfolding emitsIn
+  emits-most slot zero = omega arith
+  emits-most slot (suc n) = omega (arith, emits-most slot n, hit-most (isEmitting (nth b n) && eqb (nth b n .rdst) slot))
+
+  pub emits-rise : (slot n m : ℕ) → n ≤ m → emitsIn b slot n ≤ emitsIn b slot m
+  unfolding emitsIn
+  emits-rise slot n zero le = let none : n ≡ 0 = omega arith in omega (arith, ap (λ k. emitsIn b slot k) none)
+  emits-rise slot n (suc m) le =
+      ⊎-elim
+      (λ same. omega (arith, ap (λ k. emitsIn b slot k) same))
+      (λ less. omega (arith, emits-rise slot n m (le-of-suc-le-suc less)))
+      (eq-or-lt-of-le le)
+
+module _ (n : ℕ → ℕ) (r : ℕ) where
+  pub more-here : oneMore n r r ≡ suc (n r)
+  unfolding oneMore either
+  more-here = rw (eq-eqb r r refl)
+
+  pub more-other : (q : ℕ) → (q ≡ r → ⊥) → oneMore n r q ≡ n q
+  unfolding oneMore either
+  more-other q other = rw (ne-eqb q r other)
+
+module _ (R : ℕ → List ℕ) where
+  -- one more start adds what its command emits
+  pub count-more : (n : ℕ → ℕ) (r slot : ℕ) → r < 4 → countOf R (oneMore n r) slot ≡ countOf R n slot + hit (nth (R r) (n r)) slot
+  unfolding emitsIn
+  count-more n r slot four =
+      sum-grows (λ q. emitsIn (R q) slot (n q)) (λ q. emitsIn (R q) slot (oneMore n r q)) (hit (nth (R r) (n r)) slot) r four
+      (λ q other. rw (more-other n r q other)) (rw (more-here n r))
+
+  pub count-most : (n : ℕ → ℕ) (slot : ℕ) → countOf R n slot ≤ sumOfFour n
+  count-most n slot = sum-most (λ q. emitsIn (R q) slot (n q)) n (λ q four. emits-most (R q) slot (n q))
+
+  pub count-rises : (n m : ℕ → ℕ) (slot : ℕ) → ((q : ℕ) → n q ≤ m q) → countOf R n slot ≤ countOf R m slot
+  count-rises n m slot le =
+      sum-most (λ q. emitsIn (R q) slot (n q)) (λ q. emitsIn (R q) slot (m q)) (λ q four. emits-rise (R q) slot (n q) (m q) (le q))
