@@ -1,5 +1,5 @@
 -- When the answer is idle, no order of starts gets further than the device did.
--- Assumes that unless its slot is full, a command emits exactly if its emit bit is set and it has no header fault.
+-- Assumes that a slot that is not full is added to exactly by a command that emits.
 use mathlib.Core.Path.{_≡_, refl, sym, ap, _∙_}
 use mathlib.Core.Bool.{Bool, true, false, _&&_}
 use mathlib.Core.List.{List, [], _∷_}
@@ -26,9 +26,9 @@ use Rattle.device.specs.Ready.{readyWith, readyAt, pickOf}
 use Rattle.device.specs.Turn.{Call, emitted, unchanged, deviceAfter, finished, reportOf, servedOf, verdictOn, turnOf}
 use Rattle.device.proofs.Verdicts.{each-of-four, steady}
 use Rattle.demands.specs.Calls.{ringIn, headIn, answerOf, deviceOf, isRefused, SlotsFit, EachHeard, none, more, Formed}
-use Rattle.demands.specs.Performs.{EachWork, EmitsWhenSound}
+use Rattle.demands.specs.Performs.{isEmitting, EachWork, EmitsWhenSound}
 use Rattle.demands.specs.Bounded.{Lends, sumOfFour, served, taken}
-use Rattle.demands.specs.Idle.{placeOf, nth, isEmitting, emitsIn, countOf, oneMore, Order, nothing, start, lastOf, IdleIsDone}
+use Rattle.demands.specs.Idle.{placeOf, nth, emitsIn, countOf, oneMore, Order, nothing, start, lastOf, IdleIsDone}
 use Rattle.demands.proofs.Turns.{pickIn, servedIn, workIn, turn-cases}
 use Rattle.demands.proofs.Devices.{after-emit, after-no-emit, after-other-slot}
 use Rattle.demands.proofs.Walks.{walk, seek-reaches, distance}
@@ -36,7 +36,8 @@ use Rattle.demands.proofs.FourTurns.{ready-rises, marker-below, served-
 use Rattle.demands.proofs.Keeps.{picked-servable}
 use Rattle.demands.proofs.Sums.{sum-most}
 use Rattle.demands.proofs.Bounded.{served-cursor, served-others, served-formed, served-is}
-use Rattle.demands.proofs.Orders.{emitting-slot, hit, place-least, more-here, more-other, count-more, count-most, count-rises}
+use Rattle.demands.proofs.Emitting.{emitting-slot}
+use Rattle.demands.proofs.Orders.{hit, place-least, more-here, more-other, count-more, count-most, count-rises}
 
 -- the device has taken t q commands of each ring q
 pub record Took (R : ℕ → List ℕ) (d : Device) (t : ℕ → ℕ) : Type 0 where
@@ -134,7 +135,7 @@ module _ (when : EmitsWhenSound) (limit : ℕ) (R : ℕ → List ℕ) where
             rw (more-other t r q other) (served-others limit d call (took .formed) r sound pick q other ∙ took .cursors q four)
 
     next-slot : (s : ℕ) → slotOf (servedIn limit d call r .turned .device) s ≡ countOf R (oneMore t r) s
-    unfolding servedOf finished EmitsWhenSound EachWork isEmitting
+    unfolding servedOf finished EmitsWhenSound EachWork
     next-slot s =
         let c = headIn d call r in
         let free = few R d t took call sound (c .rdst) in

@@ -1,6 +1,6 @@
 -- What a turn leaves as it was.
--- Assumes that a command keeps its window's length, and that one whose outcome is 1 to 10 changes nothing.
-use mathlib.Core.Path.{_≡_, refl, sym, ap, _∙_}
+-- Assumes that a command keeps the lengths of its window and the pipe, and the pipe past the words read, and that one whose outcome is 1 to 10 changes nothing.
+use mathlib.Core.Path.{_≡_, refl, ap, subst, _∙_}
 use mathlib.Core.Bool.{Bool, true, false}
 use mathlib.Core.List.{List, [], _∷_}
 use Prim.Native.Nat.{ℕ, zero, suc, _+_, _≤_, _<_}
@@ -10,6 +10,7 @@ use Rattle.memory.specs.Window.{windowOf, putBack}
 use Rattle.memory.proofs.Window.{window-length, put-back-window, put-back-length, put-back-outside}
 use Rattle.command.specs.Choice.{either}
 use Rattle.command.specs.Outcome.{outcomeNumber}
+use Rattle.command.specs.Report.{wordsRead}
 use Rattle.device.specs.declared.state.Window.{Window}
 use Rattle.device.specs.declared.state.Ring.{Ring}
 use Rattle.device.specs.declared.state.Device.{Device}
@@ -27,7 +28,7 @@ use Rattle.device.specs.Fresh.{freshOf}
 use Rattle.device.specs.Turn.{Call, After, unchanged, ringAfter, reportOf, finished, servedOf, verdictOn, turnOf, Servable}
 use Rattle.device.proofs.Verdicts.{servable}
 use Rattle.demands.specs.Calls.{ringIn, headIn, answerOf, deviceOf, isRefused}
-use Rattle.demands.specs.Performs.{EachWork, WindowStays, FaultsKeep, Untouched}
+use Rattle.demands.specs.Performs.{EachWork, WindowStays, PipeKept, PipeStays, FaultsKeep}
 use Rattle.demands.specs.Keeps.{Same, SameBytes, OutsideOf, Keeps, TurnKeeps, Making, FreshMakes}
 use Rattle.demands.proofs.Turns.{pickIn, servedIn, workIn, turn-cases, was-served}
 use Rattle.demands.proofs.Devices.{after-frames}
@@ -40,7 +41,7 @@ unfolding verdictOn
 picked-servable d call q sound e =
     servable d (length (call .memory)) (call .ring0) (call .ring1) (call .ring2) (call .ring3) (length (call .pipe)) (call .pack) sound q e
 
-module _ (stays : WindowStays) (faults-keep : FaultsKeep) (limit : ℕ) (d : Device) (call : Call) where
+module _ (stays : WindowStays) (pipe-stays : PipeStays) (faults-keep : FaultsKeep) (limit : ℕ) (d : Device) (call : Call) where
   refused-same : isRefused (answerOf limit d call) ≡ true → Same d call (turnOf limit d call)
   unfolding unchanged
   refused-same =
@@ -83,6 +84,10 @@ module _ (stays : WindowStays) (faults-keep : FaultsKeep) (limit : ℕ) (d : Dev
           frame = after-frames d q _ _ (kept .frame);
         }
 
+  served-pipe : (q : ℕ) → PipeKept (wordsRead (headIn d call q) (workIn limit d call q .performed .outcome)) (call .pipe) (servedIn limit d call q .pipe)
+  unfolding servedOf PipeStays EachWork
+  served-pipe q = pipe-stays _ _ _ _ _ _ _ _
+
   pub keeps : Keeps limit d call
   unfolding unchanged
   keeps = record {
@@ -97,11 +102,14 @@ module _ (stays : WindowStays) (faults-keep : FaultsKeep) (limit : ℕ) (d : Dev
         rw (was .after) (served-outside (report .ring) (picked-servable d call (report .ring) (was .sound) (was .pick) .fits) i out);
     long = turn-cases limit d call (λ a. length (a .memory) ≡ length (call .memory)) (λ why v. refl) (λ sound p. refl)
         (λ q sound p. served-long q (picked-servable d call q sound p .fits));
+    pipe = λ report e.
+        let was = was-served limit d call report e in
+        rw (was .after) (subst (λ (r : Report). PipeKept (r .words) (call .pipe) (servedIn limit d call (report .ring) .pipe)) (was .told) (served-pipe (report .ring)));
   }
 
-pub turn-keeps : WindowStays → FaultsKeep → TurnKeeps
+pub turn-keeps : WindowStays → PipeStays → FaultsKeep → TurnKeeps
 unfolding TurnKeeps
-turn-keeps stays faults-keep limit d call = keeps stays faults-keep limit d call
+turn-keeps stays pipe-stays faults-keep limit d call = keeps stays pipe-stays faults-keep limit d call
 
 pub fresh-makes : FreshMakes
 unfolding FreshMakes freshOf either refusalNumber

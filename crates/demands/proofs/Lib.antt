@@ -3,6 +3,7 @@ pub mod Devices
 pub mod Walks
 pub mod FourTurns
 pub mod Keeps
+pub mod Emitting
 pub mod Reports
 pub mod Sums
 pub mod Bounded

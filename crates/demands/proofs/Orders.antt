@@ -1,48 +1,21 @@
 -- Laws of the places and counts that an order of starts goes by.
 -- Assumes nothing.
 use mathlib.Core.Path.{_≡_, refl, sym, ap, _∙_}
-use mathlib.Core.Bool.{Bool, true, false, not, _&&_, _||_}
+use mathlib.Core.Bool.{Bool, true, false, _&&_}
 use mathlib.Core.List.{List}
 use mathlib.Core.Logic.{⊎-elim}
 use Prim.Native.Nat.{ℕ, zero, suc, _+_, _*_, _≤_, _<_}
 use native.Mathlib.Nat.{eq-or-lt-of-le, le-of-suc-le-suc, le-refl}
 use native.Mathlib.Omega.{arith}
-use lib.Dec.{eqb, ltb}
-use borrow.Author.Tests.{eqb-true, eq-eqb, ne-eqb, ltb-false}
+use lib.Dec.{eqb}
+use borrow.Author.Tests.{eq-eqb, ne-eqb}
 use Rattle.command.specs.declared.header.Command.{Command}
-use Rattle.command.specs.declared.outcome.Outcome.the-variants.{Done, UnknownOpcode, ReservedFlag, WrongPayloadBit, NoSuchSlot}
-use Rattle.command.specs.Choice.{differ, either}
-use Rattle.command.specs.Faults.{headerFault}
-use Rattle.command.specs.Flags.{emitBit, waitBit, payloadBit, reservedBit}
-use Rattle.command.specs.Outcome.{outcomeNumber, isDone}
-use Rattle.command.specs.Table.{rowOf}
-use Rattle.command.proofs.Choices.{both-left, both-right}
+use Rattle.command.specs.Choice.{either}
 use Rattle.command.proofs.Sizes.{size-least}
+use Rattle.demands.specs.Performs.{isEmitting}
 use Rattle.demands.specs.Bounded.{sumOfFour}
-use Rattle.demands.specs.Idle.{placeOf, nth, isEmitting, emitsIn, countOf, oneMore}
+use Rattle.demands.specs.Idle.{placeOf, nth, emitsIn, countOf, oneMore}
 use Rattle.demands.proofs.Sums.{sum-grows, sum-most}
-
--- a command with no header fault that emits has one of the 64 slots
-no-fault : (unknown reserved payload slot : Bool)
-    → isDone (either unknown UnknownOpcode (either reserved ReservedFlag (either payload WrongPayloadBit (either slot NoSuchSlot Done)))) ≡ true
-    → slot ≡ false
-unfolding either outcomeNumber
-no-fault true reserved payload slot e = cc
-no-fault false true payload slot e = cc
-no-fault false false true slot e = cc
-no-fault false false false true e = cc
-no-fault false false false false e = refl
-
-fits : (emit wait : Bool) (rdst : ℕ) → emit ≡ true → ((emit || wait) && ltb 63 rdst) ≡ false → rdst < 64
-fits true wait rdst set e = omega (arith, ltb-false 63 rdst e)
-fits false wait rdst set e = absurd (let z : _≡_ {A = ℕ} 0 1 = cc in omega arith)
-
-pub emitting-slot : (c : Command) → isEmitting c ≡ true → c .rdst < 64
-unfolding isEmitting headerFault
-emitting-slot c e =
-    fits (emitBit (c .flags)) (waitBit (c .flags)) (c .rdst) (both-left (emitBit (c .flags)) (isDone (headerFault c)) e)
-    (no-fault (not (rowOf (c .opcode) .known)) (reservedBit (c .flags)) (differ (payloadBit (c .flags)) (rowOf (c .opcode) .payload)) _
-    (both-right (emitBit (c .flags)) (isDone (headerFault c)) e))
 
 -- 1 if the command emits to the slot, else 0
 abbrev pub hit : Command → ℕ → ℕ

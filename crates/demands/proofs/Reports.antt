@@ -1,5 +1,5 @@
 -- What is reported of a served command, and what it changes in the device.
--- Assumes that a full slot is never added to, and that a command that emits has one of the 64 slots.
+-- Assumes that a full slot is never added to, and any other exactly by a command that emits.
 use mathlib.Core.Path.{_≡_, refl, sym, ap, subst, _∙_}
 use mathlib.Core.Bool.{Bool, true, false, _&&_, _||_}
 use mathlib.Core.Logic.{_⊎_, _↔_, inl, inr, ⊎-elim}
@@ -26,10 +26,11 @@ use Rattle.device.specs.Ready.{readyAt, pickOf}
 use Rattle.device.specs.Turn.{Call, emitted, fenceOf, ringAfter, deviceAfter, finished, servedOf, turnOf}
 use Rattle.device.proofs.Verdicts.{found}
 use Rattle.demands.specs.Calls.{ringIn, headIn, answerOf, deviceOf, SlotsFit, Formed}
-use Rattle.demands.specs.Performs.{EachWork, FullSlotStays, EmitsInRange}
+use Rattle.demands.specs.Performs.{EachWork, FullSlotStays, EmitsWhenSound}
 use Rattle.demands.specs.Reports.{Signals, Interrupts, Reads, Reported, Serving, TurnReports}
 use Rattle.demands.proofs.Turns.{pickIn, servedIn, workIn, reportIn, was-served}
 use Rattle.demands.proofs.Devices.{after-marker, after-other-ring, after-ring, after-emit, after-no-emit, after-other-slot, after-formed}
+use Rattle.demands.proofs.Emitting.{emits-in-range}
 use Rattle.demands.proofs.FourTurns.{marker-below}
 
 both : (a b : Bool) → a ≡ true → b ≡ true → (a && b) ≡ true
@@ -115,9 +116,9 @@ module _ (d : Device) (q : ℕ) (c : Command) (p : Performed) (formed : Formed d
     marker = after-marker d q c p;
   }
 
-module _ (full : FullSlotStays) (range : EmitsInRange) where
+module _ (full : FullSlotStays) (when : EmitsWhenSound) where
   pub turn-reports : TurnReports
-  unfolding TurnReports servedOf finished pickOf EachWork FullSlotStays EmitsInRange
+  unfolding TurnReports servedOf finished pickOf EachWork FullSlotStays
   turn-reports limit d call report formed e =
       let was = was-served limit d call report e in
       let q = report .ring in
@@ -127,6 +128,6 @@ module _ (full : FullSlotStays) (range : EmitsInRange) where
       record {
         ring = picked .0;
         ready = picked .1;
-        reported = rw (deviceOf, was .after) (subst (λ (r : Report). Reported d q c r (deviceAfter d q c p)) (was .told) (reported d q c p formed (picked .0) (full _ _ _ _ _ _ _ _) (range _ _ _ _ _ _ _ _)));
+        reported = rw (deviceOf, was .after) (subst (λ (r : Report). Reported d q c r (deviceAfter d q c p)) (was .told) (reported d q c p formed (picked .0) (full _ _ _ _ _ _ _ _) (emits-in-range full when _ _ _ _ _ _ _ _)));
         formed = rw (deviceOf, was .after) (after-formed d q c p formed);
       }

@@ -16,7 +16,8 @@ use Rattle.device.specs.State.{emptyWindow, freshDevice, ringOf}
 use Rattle.device.specs.Refusal.{refusalNumber, memoryFits}
 use Rattle.device.specs.Fresh.{freshOf}
 use Rattle.device.specs.Turn.{Call, After, turnOf}
-use Rattle.demands.specs.Calls.{answerOf, deviceOf, isRefused}
+use Rattle.demands.specs.Performs.{PipeKept}
+use Rattle.demands.specs.Calls.{answerOf, isRefused}
 
 -- device, memory and pipe are as they were
 pub record Same (d : Device) (call : Call) (after : After) : Type 0 where
@@ -48,6 +49,8 @@ pub record Keeps (limit : ℕ) (d : Device) (call : Call) : Type 0 where
       → getD (turnOf limit d call .memory) i 0 ≡ getD (call .memory) i 0
   -- the memory keeps its length
   pub long : length (turnOf limit d call .memory) ≡ length (call .memory)
+  -- the pipe keeps its length, and its bytes past the words read
+  pub pipe : (report : Report) → answerOf limit d call ≡ Served report → PipeKept (report .words) (call .pipe) (turnOf limit d call .pipe)
 
 unfoldable pub TurnKeeps : Type 0
 TurnKeeps = (limit : ℕ) (d : Device) (call : Call) → Keeps limit d call
