@@ -1,15 +1,14 @@
 -- Turns over unchanging rings come to an end.
 -- Assumes nothing.
-use mathlib.Core.Path.{_≡_, refl, sym, ap, _∙_}
-use mathlib.Core.Bool.{Bool, true, false}
+use mathlib.Core.Path.{_≡_, refl, ap, _∙_}
+use mathlib.Core.Bool.{false}
 use mathlib.Core.List.{List, [], _∷_}
-use Prim.Native.Nat.{ℕ, _+_, _-_, _*_, _≤_, _<_}
+use Prim.Native.Nat.{ℕ, _+_, _*_, _≤_, _<_}
 use native.Mathlib.Omega.{arith}
 use lib.Dec.{eqb}
 use lib.ListN.{length}
 use borrow.Author.Tests.{eq-eqb, ne-eqb}
 use Rattle.command.specs.Choice.{either}
-use Rattle.command.specs.Header.{commandAt}
 use Rattle.command.proofs.Sizes.{size-least}
 use Rattle.device.specs.declared.state.Device.{Device}
 use Rattle.device.specs.declared.refusal.Verdict.the-variants.{Sound}
@@ -17,15 +16,15 @@ use Rattle.device.specs.declared.ready.Picked.the-variants.{Ring as RingOf}
 use Rattle.device.specs.declared.refusal.Refusal.{Refusal}
 use Rattle.device.specs.declared.turn.Answer.the-variants.{Refused as RefusedFor, Idle}
 use Rattle.device.specs.State.{ringOf}
-use Rattle.device.specs.Turn.{Call, unchanged, ringAfter, finished, reportOf, servedOf, verdictOn, turnOf}
+use Rattle.device.specs.Turn.{Call, unchanged, ringAfter, finished, reportOf, servedOf, verdictOn}
 use Rattle.device.proofs.Wholes.{whole-inside}
-use Rattle.demands.specs.Calls.{ringIn, headIn, answerOf, deviceOf, isRefused, EachHeard, none, more, Formed}
+use Rattle.demands.specs.Calls.{ringIn, headIn, answerOf, deviceOf, isRefused, none, more, Formed}
 use Rattle.demands.specs.Bounded.{Lends, sumOfFour, served, taken, left, TurnsBounded}
 use Rattle.demands.proofs.Turns.{pickIn, servedIn, workIn, turn-cases}
 use Rattle.demands.proofs.Devices.{after-ring, after-other-ring, after-formed}
 use Rattle.demands.proofs.FourTurns.{served-heard}
 use Rattle.demands.proofs.Keeps.{picked-servable}
-use Rattle.demands.proofs.Sums.{sum-grows, sum-most, sum-both}
+use Rattle.demands.proofs.Sums.{sum-grows, sum-both}
 
 module _ (limit : ℕ) (d : Device) (call : Call) (formed : Formed d) (r : ℕ) (sound : verdictOn d call ≡ Sound) (pick : pickIn d call ≡ RingOf r) where
   four : r < 4
@@ -83,9 +82,10 @@ module _ (limit : ℕ) (d : Device) (call : Call) (R : ℕ → List ℕ) (formed
       → (16 * sumOfFour (served (a .turned .answer)) + sumOfFour (left R (a .turned .device)) ≤ sumOfFour (left R d)) × Formed (a .turned .device))
       (λ why v lends. (omega (arith, refused-none why), formed))
       (λ v p lends. (omega (arith, idle-none), formed))
-      (λ r v p lends.
-      (omega (arith, served-once limit d call formed r v p, served-left limit d call formed r v p R (lends (served-heard limit d call r))),
-      served-formed limit d call formed r v p))
+      (λ r v p lends. (
+        omega (arith, served-once limit d call formed r v p, served-left limit d call formed r v p R (lends (served-heard limit d call r))),
+        served-formed limit d call formed r v p,
+      ))
 
 none-taken : (limit : ℕ) (d : Device) → sumOfFour (taken limit d []) ≡ 0
 unfolding taken sumOfFour

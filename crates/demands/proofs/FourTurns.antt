@@ -1,34 +1,32 @@
 -- A ready ring is served within four turns: each turn that serves another ring brings the marker nearer to it.
 -- Assumes that a full slot is never added to.
 use mathlib.Core.Path.{_≡_, refl, sym, ap, _∙_}
-use mathlib.Core.Bool.{Bool, true, false, not, _&&_, _||_}
+use mathlib.Core.Bool.{Bool, true, false, not, _||_}
 use mathlib.Core.List.{List, [], _∷_}
 use mathlib.Core.Logic.{_⊎_, inl, inr, ⊎-elim}
-use Prim.Native.Nat.{ℕ, zero, suc, _+_, _≤_, _<_}
+use Prim.Native.Nat.{ℕ, _+_, _≤_, _<_}
 use native.Mathlib.Nat.{eq-or-lt-of-le, not-suc-le-zero}
 use native.Mathlib.Omega.{arith}
-use lib.Dec.{leb, eqb}
+use lib.Dec.{eqb}
 use lib.ListN.{length, getD}
 use borrow.Author.Tests.{leb-true, le-leb, eqb-true, eqb-false}
 use Rattle.command.specs.declared.header.Command.{Command}
-use Rattle.command.specs.declared.perform.Performed.{Performed}
 use Rattle.command.specs.Choice.{either}
 use Rattle.command.specs.Flags.{waitBit}
 use Rattle.command.specs.Faults.{headerFault}
 use Rattle.command.specs.Header.{commandAt, isWhole}
 use Rattle.command.specs.Outcome.{isDone}
 use Rattle.command.specs.Perform.{performedOf}
-use Rattle.command.specs.Report.{emits}
 use Rattle.command.proofs.Agree.{command-agree, whole-agree}
 use Rattle.command.proofs.Choices.{both-left, both-right}
 use Rattle.memory.specs.Window.{windowOf}
 use Rattle.device.specs.declared.state.Device.{Device}
 use Rattle.device.specs.declared.refusal.Verdict.the-variants.{Sound}
-use Rattle.device.specs.declared.ready.Picked.the-variants.{Ring as RingOf, Nobody}
+use Rattle.device.specs.declared.ready.Picked.the-variants.{Ring as RingOf}
 use Rattle.device.specs.declared.turn.Answer.{Answer}
 use Rattle.device.specs.State.{ringOf, slotOf}
-use Rattle.device.specs.Ready.{isMet, readyWith, readyAt, nextRing, seek, bytesOfRing, pickOf}
-use Rattle.device.specs.Turn.{Call, unchanged, deviceAfter, reportOf, finished, servedOf, verdictOn, turnOf}
+use Rattle.device.specs.Ready.{isMet, readyWith, readyAt, pickOf}
+use Rattle.device.specs.Turn.{Call, unchanged, reportOf, finished, servedOf, verdictOn}
 use Rattle.device.proofs.Verdicts.{steady}
 use Rattle.device.proofs.Wholes.{whole-inside}
 use Rattle.demands.specs.Calls.{ringIn, answerOf, deviceOf, isRefused, ServesRing, SlotsFit, heard, EachHeard, none, more, Serves, here, later}

@@ -1,29 +1,28 @@
 -- When the answer is idle, no order of starts gets further than the device did.
 -- Assumes that a slot that is not full is added to exactly by a command that emits.
 use mathlib.Core.Path.{_≡_, refl, sym, ap, _∙_}
-use mathlib.Core.Bool.{Bool, true, false, _&&_}
+use mathlib.Core.Bool.{Bool, true, false}
 use mathlib.Core.List.{List, [], _∷_}
 use mathlib.Core.Logic.{⊎-elim}
-use Prim.Native.Nat.{ℕ, zero, suc, _+_, _*_, _%_, _^_, _≤_, _<_}
+use Prim.Native.Nat.{ℕ, zero, suc, _+_, _≤_, _<_}
 use native.Mathlib.Nat.{eq-or-lt-of-le}
 use native.Mathlib.Omega.{arith}
 use lib.Dec.{eqb, lit<}
-use lib.ListN.{length, getD, set, replicate, length-replicate}
+use lib.ListN.{length, getD, replicate}
 use lib.Seq.{getD-set-same}
-use borrow.Author.Tests.{eqb-true, eqb-false, eq-eqb, ne-eqb}
+use borrow.Author.Tests.{eqb-true, eqb-false, eq-eqb}
 use Rattle.command.specs.declared.header.Command.{Command}
 use Rattle.command.specs.declared.perform.Performed.{Performed}
 use Rattle.command.specs.Choice.{either}
-use Rattle.command.specs.Header.{commandAt, isWhole}
 use Rattle.command.specs.Report.{emits}
 use Rattle.device.specs.declared.state.Window.{Window}
 use Rattle.device.specs.declared.state.Device.{Device}
 use Rattle.device.specs.declared.refusal.Verdict.the-variants.{Sound}
-use Rattle.device.specs.declared.ready.Picked.the-variants.{Ring as RingOf, Nobody}
+use Rattle.device.specs.declared.ready.Picked.the-variants.{Ring as RingOf}
 use Rattle.device.specs.declared.turn.Answer.the-variants.{Idle}
 use Rattle.device.specs.State.{freshDevice, ringOf, slotOf}
-use Rattle.device.specs.Ready.{readyWith, readyAt, pickOf}
-use Rattle.device.specs.Turn.{Call, emitted, unchanged, deviceAfter, finished, reportOf, servedOf, verdictOn, turnOf}
+use Rattle.device.specs.Ready.{readyAt, pickOf}
+use Rattle.device.specs.Turn.{Call, emitted, unchanged, deviceAfter, finished, reportOf, servedOf, verdictOn}
 use Rattle.device.proofs.Verdicts.{each-of-four, steady}
 use Rattle.demands.specs.Calls.{ringIn, headIn, answerOf, deviceOf, isRefused, SlotsFit, EachHeard, none, more, Formed}
 use Rattle.demands.specs.Performs.{isEmitting, EachWork, EmitsWhenSound}
@@ -31,10 +30,9 @@ use Rattle.demands.specs.Bounded.{Lends, sumOfFour, served, taken}
 use Rattle.demands.specs.Idle.{placeOf, nth, emitsIn, countOf, oneMore, Order, nothing, start, lastOf, IdleIsDone}
 use Rattle.demands.proofs.Turns.{pickIn, servedIn, workIn, turn-cases}
 use Rattle.demands.proofs.Devices.{after-emit, after-no-emit, after-other-slot}
-use Rattle.demands.proofs.Walks.{walk, seek-reaches, distance}
+use Rattle.demands.proofs.Walks.{seek-reaches, distance}
 use Rattle.demands.proofs.FourTurns.{ready-rises, marker-below, served-heard}
 use Rattle.demands.proofs.Keeps.{picked-servable}
-use Rattle.demands.proofs.Sums.{sum-most}
 use Rattle.demands.proofs.Bounded.{served-cursor, served-others, served-formed, served-is}
 use Rattle.demands.proofs.Emitting.{emitting-slot}
 use Rattle.demands.proofs.Orders.{hit, place-least, more-here, more-other, count-more, count-most, count-rises}
@@ -99,6 +97,7 @@ module _ (limit : ℕ) (R : ℕ → List ℕ) where
           let c = nth (R r) (n r) in
           let risen : countOf R n (c .rdst) ≤ slotOf d (c .rdst) = omega (arith, count-rises R n t (c .rdst) le, took .slots (c .rdst)) in
           unready r four (rw (at, whole) (ready-rises c _ _ risen ready))
+
       go : ((q : ℕ) → n q ≤ t q) → (b : Bool) → eqb q r ≡ b → oneMore n r q ≤ t q
       go le true e =
           let here : q ≡ r = eqb-true q r e in

@@ -2,17 +2,13 @@
 -- Assumes that a command keeps the lengths of its window and the pipe, and the pipe past the words read, and that one whose outcome is 1 to 10 changes nothing.
 use mathlib.Core.Path.{_≡_, refl, ap, subst, _∙_}
 use mathlib.Core.Bool.{Bool, true, false}
-use mathlib.Core.List.{List, [], _∷_}
-use Prim.Native.Nat.{ℕ, zero, suc, _+_, _≤_, _<_}
+use Prim.Native.Nat.{ℕ, _+_, _≤_}
 use native.Mathlib.Omega.{arith}
-use lib.ListN.{length, getD, set}
-use Rattle.memory.specs.Window.{windowOf, putBack}
+use lib.ListN.{length, getD}
 use Rattle.memory.proofs.Window.{window-length, put-back-window, put-back-length, put-back-outside}
 use Rattle.command.specs.Choice.{either}
 use Rattle.command.specs.Outcome.{outcomeNumber}
 use Rattle.command.specs.Report.{wordsRead}
-use Rattle.device.specs.declared.state.Window.{Window}
-use Rattle.device.specs.declared.state.Ring.{Ring}
 use Rattle.device.specs.declared.state.Device.{Device}
 use Rattle.device.specs.declared.refusal.Refusal.{Refusal}
 use Rattle.device.specs.declared.refusal.Refusal.the-variants.{Memory}
@@ -21,15 +17,15 @@ use Rattle.device.specs.declared.ready.Picked.the-variants.{Ring as RingOf}
 use Rattle.device.specs.declared.fresh.Making.the-variants.{Made, Refused}
 use Rattle.device.specs.declared.fresh.Fresh.{Fresh}
 use Rattle.device.specs.declared.turn.Report.{Report}
-use Rattle.device.specs.declared.turn.Answer.the-variants.{Idle, Served}
+use Rattle.device.specs.declared.turn.Answer.the-variants.{Idle}
 use Rattle.device.specs.State.{emptyWindow, freshDevice, ringOf}
 use Rattle.device.specs.Refusal.{refusalNumber, memoryFits}
 use Rattle.device.specs.Fresh.{freshOf}
-use Rattle.device.specs.Turn.{Call, After, unchanged, ringAfter, reportOf, finished, servedOf, verdictOn, turnOf, Servable}
+use Rattle.device.specs.Turn.{Call, unchanged, reportOf, finished, servedOf, verdictOn, turnOf, Servable}
 use Rattle.device.proofs.Verdicts.{servable}
-use Rattle.demands.specs.Calls.{ringIn, headIn, answerOf, deviceOf, isRefused}
+use Rattle.demands.specs.Calls.{ringIn, headIn, answerOf, isRefused}
 use Rattle.demands.specs.Performs.{EachWork, WindowStays, PipeKept, PipeStays, FaultsKeep}
-use Rattle.demands.specs.Keeps.{Same, SameBytes, OutsideOf, Keeps, TurnKeeps, Making, FreshMakes}
+use Rattle.demands.specs.Keeps.{Same, SameBytes, OutsideOf, Keeps, TurnKeeps, FreshMakes}
 use Rattle.demands.proofs.Turns.{pickIn, servedIn, workIn, turn-cases, was-served}
 use Rattle.demands.proofs.Devices.{after-frames}
 use Rattle.demands.proofs.FourTurns.{served-heard}

@@ -1,12 +1,11 @@
 -- What is reported of a served command, and what it changes in the device.
 -- Assumes that a full slot is never added to, and any other exactly by a command that emits.
-use mathlib.Core.Path.{_≡_, refl, sym, ap, subst, _∙_}
+use mathlib.Core.Path.{_≡_, refl, ap, subst}
 use mathlib.Core.Bool.{Bool, true, false, _&&_, _||_}
 use mathlib.Core.Logic.{_⊎_, _↔_, inl, inr, ⊎-elim}
-use Prim.Native.Nat.{ℕ, _+_, _%_, _^_, _≤_, _<_}
+use Prim.Native.Nat.{ℕ, _+_, _^_, _<_}
 use native.Mathlib.Omega.{arith}
 use lib.Dec.{eqb, ltb, leb}
-use lib.ListN.{length, getD, set}
 use lib.Seq.{getD-set-same}
 use borrow.Author.Tests.{eqb-true, eq-eqb, leb-true, le-leb, ltb-true, lt-ltb}
 use Rattle.command.specs.declared.header.Command.{Command}
@@ -20,15 +19,14 @@ use Rattle.command.specs.Report.{emits, interrupts, wordsRead}
 use Rattle.command.proofs.Choices.{both-left, both-right}
 use Rattle.device.specs.declared.state.Device.{Device}
 use Rattle.device.specs.declared.turn.Report.{Report}
-use Rattle.device.specs.declared.turn.Answer.the-variants.{Served}
 use Rattle.device.specs.State.{ringOf, slotOf}
 use Rattle.device.specs.Ready.{readyAt, pickOf}
-use Rattle.device.specs.Turn.{Call, emitted, fenceOf, ringAfter, deviceAfter, finished, servedOf, turnOf}
+use Rattle.device.specs.Turn.{fenceOf, ringAfter, deviceAfter, finished, servedOf}
 use Rattle.device.proofs.Verdicts.{found}
-use Rattle.demands.specs.Calls.{ringIn, headIn, answerOf, deviceOf, SlotsFit, Formed}
+use Rattle.demands.specs.Calls.{ringIn, headIn, deviceOf, SlotsFit, Formed}
 use Rattle.demands.specs.Performs.{EachWork, FullSlotStays, EmitsWhenSound}
-use Rattle.demands.specs.Reports.{Signals, Interrupts, Reads, Reported, Serving, TurnReports}
-use Rattle.demands.proofs.Turns.{pickIn, servedIn, workIn, reportIn, was-served}
+use Rattle.demands.specs.Reports.{Signals, Interrupts, Reads, Reported, TurnReports}
+use Rattle.demands.proofs.Turns.{workIn, was-served}
 use Rattle.demands.proofs.Devices.{after-marker, after-other-ring, after-ring, after-emit, after-no-emit, after-other-slot, after-formed}
 use Rattle.demands.proofs.Emitting.{emits-in-range}
 use Rattle.demands.proofs.FourTurns.{marker-below}
@@ -51,15 +49,17 @@ not-held false f = refl
 module _ (c : Command) (o : Outcome) where
   pub signals : (emits c o ≡ true) ↔ Signals c o
   unfolding emits
-  signals =
-      (λ e. (both-left (emitBit (c .flags)) _ e, ⊎-elim (λ z. inl (eqb-true _ _ z)) (λ l. inr (leb-true _ _ l)) (which _ _ (both-right (emitBit (c .flags)) _ e))),
-      λ s. both _ _ (s .0) (one-of (eqb (outcomeNumber o) 0) (leb 6 (outcomeNumber o)) (⊎-elim (λ z. inl (eq-eqb _ _ z)) (λ l. inr (le-leb _ _ l)) (s .1))))
+  signals = (
+    λ e. (both-left (emitBit (c .flags)) _ e, ⊎-elim (λ z. inl (eqb-true _ _ z)) (λ l. inr (leb-true _ _ l)) (which _ _ (both-right (emitBit (c .flags)) _ e))),
+    λ s. both _ _ (s .0) (one-of (eqb (outcomeNumber o) 0) (leb 6 (outcomeNumber o)) (⊎-elim (λ z. inl (eq-eqb _ _ z)) (λ l. inr (le-leb _ _ l)) (s .1))),
+  )
 
   pub interrupts-when : (interrupts c o ≡ true) ↔ Interrupts c o
   unfolding interrupts
-  interrupts-when =
-      (λ e. (both-left (irqBit (c .flags)) _ e, ⊎-elim (λ z. inl (eqb-true _ _ z)) (λ l. inr (ltb-true _ _ l)) (which _ _ (both-right (irqBit (c .flags)) _ e))),
-      λ s. both _ _ (s .0) (one-of (eqb (outcomeNumber o) 0) (ltb 4 (outcomeNumber o)) (⊎-elim (λ z. inl (eq-eqb _ _ z)) (λ l. inr (lt-ltb _ _ l)) (s .1))))
+  interrupts-when = (
+    λ e. (both-left (irqBit (c .flags)) _ e, ⊎-elim (λ z. inl (eqb-true _ _ z)) (λ l. inr (ltb-true _ _ l)) (which _ _ (both-right (irqBit (c .flags)) _ e))),
+    λ s. both _ _ (s .0) (one-of (eqb (outcomeNumber o) 0) (ltb 4 (outcomeNumber o)) (⊎-elim (λ z. inl (eq-eqb _ _ z)) (λ l. inr (lt-ltb _ _ l)) (s .1))),
+  )
 
   reads : Reads c o → wordsRead c o ≡ c .len
   unfolding wordsRead either

@@ -40,6 +40,7 @@ turn-cases limit d call P refused idle served = judged (verdictOn d call) refl
     picked : verdictOn d call ≡ Sound → (p : Picked) → pickIn d call ≡ p → P (pickedOf limit d call p)
     picked sound (RingOf q) e = served q sound e
     picked sound Nobody e = idle sound e
+
     judged : (v : Verdict) → verdictOn d call ≡ v → P (judgedOf limit d call v)
     judged Sound e = picked e (pickIn d call) refl
     judged (Refused why) e = refused why e

@@ -1,13 +1,13 @@
 -- How far a ring is from the marker, and how a search walks there.
 -- Assumes nothing.
-use mathlib.Core.Path.{_≡_, refl, sym, _∙_}
+use mathlib.Core.Path.{_≡_, refl}
 use mathlib.Core.Bool.{Bool, true, false}
-use Prim.Native.Nat.{ℕ, zero, suc, _+_, _≤_, _<_}
-use native.Mathlib.Nat.{lt-irrefl, not-suc-le-zero, le-of-suc-le-suc}
+use Prim.Native.Nat.{ℕ, zero, suc, _≤_, _<_}
+use native.Mathlib.Nat.{not-suc-le-zero, le-of-suc-le-suc}
 use native.Mathlib.Omega.{arith}
-use lib.Dec.{lit<, ltb}
+use lib.Dec.{lit<}
 use Rattle.command.specs.Choice.{either}
-use Rattle.device.specs.declared.ready.Picked.the-variants.{Ring, Nobody}
+use Rattle.device.specs.declared.ready.Picked.the-variants.{Ring}
 use Rattle.device.specs.Ready.{nextRing, seek}
 use Rattle.device.proofs.Verdicts.{each-of-four}
 
