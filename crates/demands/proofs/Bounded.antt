@@ -20,10 +20,8 @@ use Rattle.device.specs.Turn.{Call, unchanged, ringAfter, finished, reportOf, s
 use Rattle.device.proofs.Wholes.{whole-inside}
 use Rattle.demands.specs.Calls.{ringIn, headIn, answerOf, deviceOf, isRefused, none, more, Formed}
 use Rattle.demands.specs.Bounded.{Lends, sumOfFour, served, taken, left, TurnsBounded}
-use Rattle.demands.proofs.Turns.{pickIn, servedIn, workIn, turn-cases}
+use Rattle.demands.proofs.Turns.{pickIn, servedIn, workIn, turn-cases, served-heard, picked-servable}
 use Rattle.demands.proofs.Devices.{after-ring, after-other-ring, after-formed}
-use Rattle.demands.proofs.FourTurns.{served-heard}
-use Rattle.demands.proofs.Keeps.{picked-servable}
 use Rattle.demands.proofs.Sums.{sum-grows, sum-both}
 
 module _ (limit : ℕ) (d : Device) (call : Call) (formed : Formed d) (r : ℕ) (sound : verdictOn d call ≡ Sound) (pick : pickIn d call ≡ RingOf r) where
@@ -60,8 +58,11 @@ module _ (limit : ℕ) (d : Device) (call : Call) (formed : Formed d) (r : ℕ) 
   unfolding left
   served-left R lends =
       let size = headIn d call r .size in
-      let inside : ringOf d r .cursor + size ≤ length (R r) = rw (← lends r four) (whole-inside (ringIn call r) (ringOf d r .cursor) (picked-servable d call r sound pick .whole)) in
-      let grown = sum-grows (left R (servedIn limit d call r .turned .device)) (left R d) size r four (λ n other. rw (served-others n other)) (omega (arith, served-cursor)) in
+      let inside : ringOf d r .cursor + size ≤ length (R r) =
+      rw (← lends r four) (whole-inside (ringIn call r) (ringOf d r .cursor) (picked-servable d call r sound pick .whole)) in
+      let grown =
+      sum-grows (left R (servedIn limit d call r .turned .device)) (left R d) size r four
+      (λ n other. rw (served-others n other)) (omega (arith, served-cursor)) in
       omega (arith, grown, size-least (ringIn call r) (ringOf d r .cursor))
 
 refused-none : (why : Refusal) → sumOfFour (served (RefusedFor why)) ≡ 0

@@ -117,7 +117,11 @@ module _ (d : Device) (q : ℕ) (c : Command) (p : Performed) where
       go false e = rw (after-no-emit e)
 
   pub after-formed : Formed d → Formed (deviceAfter d q c p)
-  after-formed formed = record { slots = after-fits (formed .slots); sixty-four = slots-kept (emits c (p .outcome)) refl ∙ formed .sixty-four; four = rw after-rings (simp length-set (formed .four)) }
+  after-formed formed = record {
+    slots = after-fits (formed .slots);
+    sixty-four = slots-kept (emits c (p .outcome)) refl ∙ formed .sixty-four;
+    four = rw after-rings (simp length-set (formed .four));
+  }
     where
       slots-kept : (b : Bool) → emits c (p .outcome) ≡ b → length (deviceAfter d q c p .slots) ≡ length (d .slots)
       slots-kept true e = rw (after-emit e) (simp length-set)

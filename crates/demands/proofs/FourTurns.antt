@@ -8,7 +8,7 @@ use Prim.Native.Nat.{ℕ, _+_, _≤_, _<_}
 use native.Mathlib.Nat.{eq-or-lt-of-le, not-suc-le-zero}
 use native.Mathlib.Omega.{arith}
 use lib.Dec.{eqb}
-use lib.ListN.{length, getD}
+use lib.ListN.{getD}
 use borrow.Author.Tests.{leb-true, le-leb, eqb-true, eqb-false}
 use Rattle.command.specs.declared.header.Command.{Command}
 use Rattle.command.specs.Choice.{either}
@@ -16,23 +16,18 @@ use Rattle.command.specs.Flags.{waitBit}
 use Rattle.command.specs.Faults.{headerFault}
 use Rattle.command.specs.Header.{commandAt, isWhole}
 use Rattle.command.specs.Outcome.{isDone}
-use Rattle.command.specs.Perform.{performedOf}
 use Rattle.command.proofs.Agree.{command-agree, whole-agree}
 use Rattle.command.proofs.Choices.{both-left, both-right}
-use Rattle.memory.specs.Window.{windowOf}
 use Rattle.device.specs.declared.state.Device.{Device}
-use Rattle.device.specs.declared.refusal.Verdict.the-variants.{Sound}
 use Rattle.device.specs.declared.ready.Picked.the-variants.{Ring as RingOf}
-use Rattle.device.specs.declared.turn.Answer.{Answer}
 use Rattle.device.specs.State.{ringOf, slotOf}
 use Rattle.device.specs.Ready.{isMet, readyWith, readyAt, pickOf}
-use Rattle.device.specs.Turn.{Call, unchanged, reportOf, finished, servedOf, verdictOn}
-use Rattle.device.proofs.Verdicts.{steady}
+use Rattle.device.specs.Turn.{Call, After, turnOf, unchanged, reportOf, finished, servedOf}
 use Rattle.device.proofs.Wholes.{whole-inside}
-use Rattle.demands.specs.Calls.{ringIn, answerOf, deviceOf, isRefused, ServesRing, SlotsFit, heard, EachHeard, none, more, Serves, here, later}
+use Rattle.demands.specs.Calls.{ringIn, headIn, answerOf, deviceOf, isRefused, ServesRing, SlotsFit, heard, EachHeard, none, more, Serves, here, later}
 use Rattle.demands.specs.FourTurns.{SameHead, FourTurns, FourTurnsByHead}
 use Rattle.demands.specs.Performs.{EachWork, FullSlotStays}
-use Rattle.demands.proofs.Turns.{pickIn, servedIn, turn-cases}
+use Rattle.demands.proofs.Turns.{pickIn, servedIn, workIn, turn-cases, marker-below, served-heard}
 use Rattle.demands.proofs.Devices.{after-marker, after-other-ring, after-rises, after-fits}
 use Rattle.demands.proofs.Walks.{walk, walk-next, walk-rest, seek-reaches, distance}
 
@@ -47,18 +42,9 @@ ready-rises c low high rise e =
     or-further (not (isDone (headerFault c)) || not (waitBit (c .flags))) (isMet low (c .target)) (isMet high (c .target))
     (λ met. le-leb (c .target) high (omega (arith, leb-true (c .target) low met))) e
 
--- a call that is not refused finds the marker among the rings
-pub marker-below : (d : Device) (call : Call) → verdictOn d call ≡ Sound → d .marker < 4
-unfolding verdictOn
-marker-below d call sound =
-    steady d (length (call .memory)) (call .ring0) (call .ring1) (call .ring2) (call .ring3) (length (call .pipe)) (call .pack) sound .marker
-
-pub served-heard : (limit : ℕ) (d : Device) (call : Call) (r : ℕ) → isRefused (servedIn limit d call r .turned .answer) ≡ false
-unfolding servedOf finished reportOf isRefused
-served-heard limit d call r = refl
-
 -- what follows for each call holds of each call
-each-more : {P Q : Call → Type 0} {limit : ℕ} {d : Device} {calls : List Call} → ((call : Call) → P call → Q call) → EachHeard P limit d calls → EachHeard Q limit d calls
+each-more : {P Q : Call → Type 0} {limit : ℕ} {d : Device} {calls : List Call} → ((call : Call) → P call → Q call)
+    → EachHeard P limit d calls → EachHeard Q limit d calls
 each-more f none = none
 each-more f (more p each) = more (λ heard. f _ (p heard)) (each-more f each)
 
@@ -72,10 +58,10 @@ module _ (q : ℕ) (b : List ℕ) (k : ℕ) where
     small : j < 4
 
   -- what a turn does to a waiting ring
-  data Step (j : ℕ) (d : Device) (answer : Answer) (after : Device) : Type 0 where
-    refused : isRefused answer ≡ true → after ≡ d → Step j d answer after
-    serves : ServesRing q answer → Step j d answer after
-    nearer : (i : ℕ) → isRefused answer ≡ false → i < j → Waiting i after → Step j d answer after
+  data Step (j : ℕ) (d : Device) (a : After) : Type 0 where
+    refused : isRefused (a .turned .answer) ≡ true → a .turned .device ≡ d → Step j d a
+    serves : ServesRing q (a .turned .answer) → Step j d a
+    nearer : (i : ℕ) → isRefused (a .turned .answer) ≡ false → i < j → Waiting i (a .turned .device) → Step j d a
 
   -- a waiting ring is ready in each call that keeps its head
   still-ready : (j : ℕ) (d : Device) → Waiting j d → (r : List ℕ) → SameHead b k r → readyAt d q r ≡ true
@@ -86,47 +72,54 @@ module _ (q : ℕ) (b : List ℕ) (k : ℕ) where
 
   module _ (full : FullSlotStays) (limit : ℕ) (d : Device) (call : Call) (j : ℕ) (w : Waiting j d) where
     -- another ring, i further than the marker, is served
-    passed-by : (i : ℕ) → i < j → (walk i (d .marker) ≡ q → ⊥) → Step j d (servedIn limit d call (walk i (d .marker)) .turned .answer) (servedIn limit d call (walk i (d .marker)) .turned .device)
+    passed-by : (i : ℕ) → i < j → (walk i (d .marker) ≡ q → ⊥) → Step j d (servedIn limit d call (walk i (d .marker)))
     unfolding servedOf finished reportOf isRefused FullSlotStays EachWork
     passed-by i less other =
         let r = walk i (d .marker) in
-        let c = commandAt (ringIn call r) (ringOf d r .cursor) in
-        let p = performedOf c (slotOf d (c .rdst)) (ringIn call r) (windowOf (ringOf d r .window .start) (ringOf d r .window .length) (call .memory)) (ringOf d r .frame) (call .pack) (call .pipe) limit .performed in
+        let c = headIn d call r in
+        let p = workIn limit d call r .performed in
         let rest = walk-rest i j (d .marker) less in
         nearer (rest .0) refl (rest .1)
         (record {
           slots = after-fits d r c p (w .slots);
           cursor = ap (λ x. x .cursor) (after-other-ring d r c p q (λ e. other (sym e))) ∙ w .cursor;
-          ready = ready-rises (commandAt b k) _ _ (after-rises d r c p (w .slots) (full c _ _ _ _ _ _ _) (commandAt b k .rdst)) (w .ready);
+          ready =
+              ready-rises (commandAt b k) _ _ (after-rises d r c p (w .slots) (full c _ _ _ _ _ _ _) (commandAt b k .rdst)) (w .ready);
           away = rw (after-marker d r c p, walk-next i (d .marker)) (rest .2 ∙ w .away);
           small = omega (arith, rest .1, w .small);
         })
 
     -- ring q itself is served
-    served-now : (i : ℕ) → walk i (d .marker) ≡ q → Step j d (servedIn limit d call (walk i (d .marker)) .turned .answer) (servedIn limit d call (walk i (d .marker)) .turned .device)
+    served-now : (i : ℕ) → walk i (d .marker) ≡ q → Step j d (servedIn limit d call (walk i (d .marker)))
     unfolding servedOf finished reportOf
     served-now i e = serves (record { report = _; served = refl; ring = e })
 
     reached : SameHead b k (ringIn call q) → (i : ℕ) × (i ≤ j) × (pickIn d call ≡ RingOf (walk i (d .marker)))
     unfolding pickOf
-    reached same = seek-reaches (λ r. readyAt d r (ringIn call r)) 4 j (d .marker) (w .small) (rw (w .away) (still-ready j d w (ringIn call q) same))
+    reached same =
+        seek-reaches (λ r. readyAt d r (ringIn call r)) 4 j (d .marker) (w .small)
+        (rw (w .away) (still-ready j d w (ringIn call q) same))
 
-    picked : (r : ℕ) → pickIn d call ≡ RingOf r → SameHead b k (ringIn call q) → Step j d (servedIn limit d call r .turned .answer) (servedIn limit d call r .turned .device)
+    picked : (r : ℕ) → pickIn d call ≡ RingOf r → SameHead b k (ringIn call q) → Step j d (servedIn limit d call r)
     picked r e same =
         let near = reached same in
         let i = near .0 in
         let found : r ≡ walk i (d .marker) = cc (near .2) in
         rw found (go i (near .1) (eqb (walk i (d .marker)) q) refl)
       where
-        go : (i : ℕ) → i ≤ j → (t : Bool) → eqb (walk i (d .marker)) q ≡ t → Step j d (servedIn limit d call (walk i (d .marker)) .turned .answer) (servedIn limit d call (walk i (d .marker)) .turned .device)
+        go : (i : ℕ) → i ≤ j → (t : Bool) → eqb (walk i (d .marker)) q ≡ t → Step j d (servedIn limit d call (walk i (d .marker)))
         go i le true e = served-now i (eqb-true _ _ e)
         go i le false e =
-            ⊎-elim (λ same. absurd (eqb-false _ _ e (ap (λ n. walk n (d .marker)) same ∙ w .away))) (λ less. passed-by i less (eqb-false _ _ e)) (eq-or-lt-of-le le)
+            ⊎-elim
+            (λ same. absurd (eqb-false _ _ e (ap (λ n. walk n (d .marker)) same ∙ w .away)))
+            (λ less. passed-by i less (eqb-false _ _ e))
+            (eq-or-lt-of-le le)
 
-    step : (isRefused (answerOf limit d call) ≡ false → SameHead b k (ringIn call q)) → Step j d (answerOf limit d call) (deviceOf limit d call)
+    step : (isRefused (answerOf limit d call) ≡ false → SameHead b k (ringIn call q)) → Step j d (turnOf limit d call)
     unfolding unchanged isRefused
     step =
-        turn-cases limit d call (λ a. (isRefused (a .turned .answer) ≡ false → SameHead b k (ringIn call q)) → Step j d (a .turned .answer) (a .turned .device))
+        turn-cases limit d call
+        (λ a. (isRefused (a .turned .answer) ≡ false → SameHead b k (ringIn call q)) → Step j d a)
         (λ why e same. refused refl refl)
         (λ sound e same. absurd (let near = reached (same refl) in let z : _≡_ {A = ℕ} 0 1 = cc (near .2) in omega arith))
         (λ r sound e same. picked r e (same (served-heard limit d call r)))
@@ -139,8 +132,9 @@ module _ (q : ℕ) (b : List ℕ) (k : ℕ) where
     near [] j d w each enough = absurd (not-suc-le-zero enough)
     near (call ∷ calls) j d w (more same each) enough = go (near calls) (step full limit d call j w same)
       where
-        go : ((i : ℕ) (d : Device) → Waiting i d → EachHeard (λ call. SameHead b k (ringIn call q)) limit d calls → i < heard limit d calls → Serves limit q k d calls)
-            → Step j d (answerOf limit d call) (deviceOf limit d call) → Serves limit q k d (call ∷ calls)
+        go : ((i : ℕ) (d : Device) → Waiting i d → EachHeard (λ call. SameHead b k (ringIn call q)) limit d calls
+            → i < heard limit d calls → Serves limit q k d calls)
+            → Step j d (turnOf limit d call) → Serves limit q k d (call ∷ calls)
         go further (refused r kept) = later (further j (deviceOf limit d call) (rw kept w) each (omega (arith, rw r at enough)))
         go further (serves s) = here (w .cursor) s
         go further (nearer i r less w′) =
@@ -165,7 +159,10 @@ module _ (full : FullSlotStays) where
   waits limit q b k four [] d fit at ready each enough = absurd (not-suc-le-zero enough)
   waits limit q b k four (call ∷ calls) d fit at ready (more same each) enough =
       ⊎-elim
-      (λ r. later (waits limit q b k four calls (deviceOf limit d call) (rw (r .1) fit) (rw (r .1) at) (rw (r .1) ready) each (omega (arith, rw (r .0) at enough))))
+      (λ r.
+      later
+      (waits limit q b k four calls (deviceOf limit d call) (rw (r .1) fit) (rw (r .1) at) (rw (r .1) ready) each
+      (omega (arith, rw (r .0) at enough))))
       (λ marked.
       let away = distance (d .marker) q marked four in
       near q b k full limit (call ∷ calls) (away .0) d
@@ -181,6 +178,8 @@ module _ (full : FullSlotStays) where
   pub four-turns : FourTurns
   unfolding FourTurns FourTurnsByHead readyAt
   four-turns limit d q b calls four fit ready each enough =
-      four-turns-by-head limit d q b calls four fit ready
-      (each-more (λ call e. record { bytes = λ i low high. ap (λ r. getD r i 0) (sym e); inside = rw e (whole-inside b (ringOf d q .cursor) (both-left _ (readyWith (commandAt b (ringOf d q .cursor)) (slotOf d (commandAt b (ringOf d q .cursor) .rdst))) ready)) }) each)
-      enough
+      let k = ringOf d q .cursor in
+      let whole = both-left (isWhole b k) (readyWith (commandAt b k) (slotOf d (commandAt b k .rdst))) ready in
+      let kept : (call : Call) → ringIn call q ≡ b → SameHead b k (ringIn call q) =
+      λ call e. record { bytes = λ i low high. ap (λ r. getD r i 0) (sym e); inside = rw e (whole-inside b k whole) } in
+      four-turns-by-head limit d q b calls four fit ready (each-more kept each) enough

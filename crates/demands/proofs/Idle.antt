@@ -28,11 +28,10 @@ use Rattle.demands.specs.Calls.{ringIn, headIn, answerOf, deviceOf, isRe
 use Rattle.demands.specs.Performs.{isEmitting, EachWork, EmitsWhenSound}
 use Rattle.demands.specs.Bounded.{Lends, sumOfFour, served, taken}
 use Rattle.demands.specs.Idle.{placeOf, nth, emitsIn, countOf, oneMore, Order, nothing, start, lastOf, IdleIsDone}
-use Rattle.demands.proofs.Turns.{pickIn, servedIn, workIn, turn-cases}
+use Rattle.demands.proofs.Turns.{pickIn, servedIn, workIn, turn-cases, marker-below, served-heard, picked-servable}
 use Rattle.demands.proofs.Devices.{after-emit, after-no-emit, after-other-slot}
 use Rattle.demands.proofs.Walks.{seek-reaches, distance}
-use Rattle.demands.proofs.FourTurns.{ready-rises, marker-below, served-heard}
-use Rattle.demands.proofs.Keeps.{picked-servable}
+use Rattle.demands.proofs.FourTurns.{ready-rises}
 use Rattle.demands.proofs.Bounded.{served-cursor, served-others, served-formed, served-is}
 use Rattle.demands.proofs.Emitting.{emitting-slot}
 use Rattle.demands.proofs.Orders.{hit, place-least, more-here, more-other, count-more, count-most, count-rises}
@@ -86,7 +85,8 @@ module _ (limit : ℕ) (R : ℕ → List ℕ) where
       e
 
   -- an order of starts stays behind a device of which no ring is ready
-  behind : (d : Device) (t : ℕ → ℕ) → Took R d t → ((q : ℕ) → q < 4 → readyAt d q (R q) ≡ true → ⊥) → {n : ℕ → ℕ} → Order R n → (q : ℕ) → n q ≤ t q
+  behind : (d : Device) (t : ℕ → ℕ) → Took R d t → ((q : ℕ) → q < 4 → readyAt d q (R q) ≡ true → ⊥)
+      → {n : ℕ → ℕ} → Order R n → (q : ℕ) → n q ≤ t q
   unfolding readyAt
   behind d t took unready nothing q = omega arith
   behind d t took unready (start {n} before r four whole ready) q = go (λ p. behind d t took unready before p) (eqb q r) refl
@@ -114,7 +114,8 @@ few R d t took call sound s =
 
 module _ (when : EmitsWhenSound) (limit : ℕ) (R : ℕ → List ℕ) where
   -- a served ring has one more command taken
-  module _ (d : Device) (t : ℕ → ℕ) (took : Took R d t) (call : Call) (lends : Lends R call) (r : ℕ) (sound : verdictOn d call ≡ Sound) (pick : pickIn d call ≡ RingOf r) where
+  module _ (d : Device) (t : ℕ → ℕ) (took : Took R d t) (call : Call) (lends : Lends R call) (r : ℕ)
+      (sound : verdictOn d call ≡ Sound) (pick : pickIn d call ≡ RingOf r) where
     ring-below : r < 4
     ring-below = picked-servable d call r sound pick .number
 

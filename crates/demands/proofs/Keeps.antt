@@ -12,8 +12,6 @@ use Rattle.command.specs.Report.{wordsRead}
 use Rattle.device.specs.declared.state.Device.{Device}
 use Rattle.device.specs.declared.refusal.Refusal.{Refusal}
 use Rattle.device.specs.declared.refusal.Refusal.the-variants.{Memory}
-use Rattle.device.specs.declared.refusal.Verdict.the-variants.{Sound}
-use Rattle.device.specs.declared.ready.Picked.the-variants.{Ring as RingOf}
 use Rattle.device.specs.declared.fresh.Making.the-variants.{Made, Refused}
 use Rattle.device.specs.declared.fresh.Fresh.{Fresh}
 use Rattle.device.specs.declared.turn.Report.{Report}
@@ -21,21 +19,12 @@ use Rattle.device.specs.declared.turn.Answer.the-variants.{Idle}
 use Rattle.device.specs.State.{emptyWindow, freshDevice, ringOf}
 use Rattle.device.specs.Refusal.{refusalNumber, memoryFits}
 use Rattle.device.specs.Fresh.{freshOf}
-use Rattle.device.specs.Turn.{Call, unchanged, reportOf, finished, servedOf, verdictOn, turnOf, Servable}
-use Rattle.device.proofs.Verdicts.{servable}
-use Rattle.demands.specs.Calls.{ringIn, headIn, answerOf, isRefused}
+use Rattle.device.specs.Turn.{Call, unchanged, reportOf, finished, servedOf, turnOf}
+use Rattle.demands.specs.Calls.{headIn, answerOf, isRefused}
 use Rattle.demands.specs.Performs.{EachWork, WindowStays, PipeKept, PipeStays, FaultsKeep}
 use Rattle.demands.specs.Keeps.{Same, SameBytes, OutsideOf, Keeps, TurnKeeps, FreshMakes}
-use Rattle.demands.proofs.Turns.{pickIn, servedIn, workIn, turn-cases, was-served}
+use Rattle.demands.proofs.Turns.{servedIn, workIn, turn-cases, was-served, served-heard, picked-servable}
 use Rattle.demands.proofs.Devices.{after-frames}
-use Rattle.demands.proofs.FourTurns.{served-heard}
-
--- what a picked ring has
-pub picked-servable : (d : Device) (call : Call) (q : ℕ) → verdictOn d call ≡ Sound → pickIn d call ≡ RingOf q
-    → Servable d q (length (call .memory)) (ringIn call q) (length (call .pipe))
-unfolding verdictOn
-picked-servable d call q sound e =
-    servable d (length (call .memory)) (call .ring0) (call .ring1) (call .ring2) (call .ring3) (length (call .pipe)) (call .pack) sound q e
 
 module _ (stays : WindowStays) (pipe-stays : PipeStays) (faults-keep : FaultsKeep) (limit : ℕ) (d : Device) (call : Call) where
   refused-same : isRefused (answerOf limit d call) ≡ true → Same d call (turnOf limit d call)
@@ -91,7 +80,8 @@ module _ (stays : WindowStays) (pipe-stays : PipeStays) (faults-keep : FaultsKee
     idle = idle-same;
     faults = λ report e low high.
         let was = was-served limit d call report e in
-        let same : outcomeNumber (workIn limit d call (report .ring) .performed .outcome) ≡ outcomeNumber (report .outcome) = ap (λ r. outcomeNumber (r .outcome)) (was .told) in
+        let same : outcomeNumber (workIn limit d call (report .ring) .performed .outcome) ≡ outcomeNumber (report .outcome) =
+        ap (λ r. outcomeNumber (r .outcome)) (was .told) in
         rw (was .after) (served-faults (report .ring) (picked-servable d call (report .ring) (was .sound) (was .pick) .fits) (rw same low) (rw same high));
     outside = λ report e i out.
         let was = was-served limit d call report e in
@@ -100,7 +90,8 @@ module _ (stays : WindowStays) (pipe-stays : PipeStays) (faults-keep : FaultsKee
         (λ q sound p. served-long q (picked-servable d call q sound p .fits));
     pipe = λ report e.
         let was = was-served limit d call report e in
-        rw (was .after) (subst (λ (r : Report). PipeKept (r .words) (call .pipe) (servedIn limit d call (report .ring) .pipe)) (was .told) (served-pipe (report .ring)));
+        let kept : Report → Type 0 = λ r. PipeKept (r .words) (call .pipe) (servedIn limit d call (report .ring) .pipe) in
+        rw (was .after) (subst kept (was .told) (served-pipe (report .ring)));
   }
 
 pub turn-keeps : WindowStays → PipeStays → FaultsKeep → TurnKeeps
@@ -112,7 +103,9 @@ unfolding FreshMakes freshOf either refusalNumber
 fresh-makes memory w0 w1 w2 w3 = record { made = λ e. rw e; refused = λ e. rw e; only = go (memoryFits memory w0 w1 w2 w3) }
   where
     go : (b : Bool) (why : Refusal)
-        → either {A = Fresh} b (record { device = freshDevice w0 w1 w2 w3; answer = Made }) (record { device = freshDevice emptyWindow emptyWindow emptyWindow emptyWindow; answer = Refused Memory }) .answer ≡ Refused why
+        → either {A = Fresh} b (record { device = freshDevice w0 w1 w2 w3; answer = Made })
+        (record { device = freshDevice emptyWindow emptyWindow emptyWindow emptyWindow; answer = Refused Memory }) .answer
+        ≡ Refused why
         → refusalNumber why ≡ 101
     go true why e = absurd (let z : _≡_ {A = ℕ} 0 1 = cc in omega arith)
     go false why e = let same : why ≡ Memory = cc in rw same

@@ -26,10 +26,9 @@ use Rattle.device.proofs.Verdicts.{found}
 use Rattle.demands.specs.Calls.{ringIn, headIn, deviceOf, SlotsFit, Formed}
 use Rattle.demands.specs.Performs.{EachWork, FullSlotStays, EmitsWhenSound}
 use Rattle.demands.specs.Reports.{Signals, Interrupts, Reads, Reported, TurnReports}
-use Rattle.demands.proofs.Turns.{workIn, was-served}
+use Rattle.demands.proofs.Turns.{workIn, was-served, marker-below}
 use Rattle.demands.proofs.Devices.{after-marker, after-other-ring, after-ring, after-emit, after-no-emit, after-other-slot, after-formed}
 use Rattle.demands.proofs.Emitting.{emits-in-range}
-use Rattle.demands.proofs.FourTurns.{marker-below}
 
 both : (a b : Bool) → a ≡ true → b ≡ true → (a && b) ≡ true
 both a b p q = rw (p, q)
@@ -68,12 +67,19 @@ module _ (c : Command) (o : Outcome) where
   reads-not : (Reads c o → ⊥) → wordsRead c o ≡ 0
   unfolding wordsRead either
   reads-not not =
-      rw (not-held (eqb (c .opcode) readMem && isDone o) (λ e. not (eqb-true _ _ (both-left (eqb (c .opcode) readMem) (isDone o) e), eqb-true _ _ (both-right (eqb (c .opcode) readMem) (isDone o) e))))
+      let is = eqb (c .opcode) readMem in
+      rw (not-held (is && isDone o) (λ e. not (eqb-true _ _ (both-left is (isDone o) e), eqb-true _ _ (both-right is (isDone o) e))))
 
 module _ (d : Device) (q : ℕ) (c : Command) (p : Performed) (formed : Formed d) (four : q < 4)
     (full : emits c (p .outcome) ≡ true → slotOf d (c .rdst) ≡ 4294967295 → ⊥) (range : emits c (p .outcome) ≡ true → c .rdst < 64) where
   abbrev told : Report
-  told = record { ring = q; outcome = p .outcome; fence = fenceOf (emits c (p .outcome)) (slotOf d (c .rdst)); words = wordsRead c (p .outcome); irq = interrupts c (p .outcome) }
+  told = record {
+    ring = q;
+    outcome = p .outcome;
+    fence = fenceOf (emits c (p .outcome)) (slotOf d (c .rdst));
+    words = wordsRead c (p .outcome);
+    irq = interrupts c (p .outcome);
+  }
 
   one-more : emits c (p .outcome) ≡ true → fenceOf (emits c (p .outcome)) (slotOf d (c .rdst)) ≡ slotOf d (c .rdst) + 1
   unfolding fenceOf either SlotsFit
@@ -128,6 +134,9 @@ module _ (full : FullSlotStays) (when : EmitsWhenSound) where
       record {
         ring = picked .0;
         ready = picked .1;
-        reported = rw (deviceOf, was .after) (subst (λ (r : Report). Reported d q c r (deviceAfter d q c p)) (was .told) (reported d q c p formed (picked .0) (full _ _ _ _ _ _ _ _) (emits-in-range full when _ _ _ _ _ _ _ _)));
+        reported =
+            rw (deviceOf, was .after)
+            (subst (λ (r : Report). Reported d q c r (deviceAfter d q c p)) (was .told)
+            (reported d q c p formed (picked .0) (full _ _ _ _ _ _ _ _) (emits-in-range full when _ _ _ _ _ _ _ _)));
         formed = rw (deviceOf, was .after) (after-formed d q c p formed);
       }

@@ -8,7 +8,8 @@ use Rattle.device.proofs.Verdicts.{each-of-four}
 use Rattle.demands.specs.Bounded.{sumOfFour}
 
 -- one of four grows by x, and so does the sum
-pub sum-grows : (f g : ℕ → ℕ) (x r : ℕ) → r < 4 → ((n : ℕ) → (n ≡ r → ⊥) → g n ≡ f n) → g r ≡ f r + x → sumOfFour g ≡ sumOfFour f + x
+pub sum-grows : (f g : ℕ → ℕ) (x r : ℕ) → r < 4 → ((n : ℕ) → (n ≡ r → ⊥) → g n ≡ f n) → g r ≡ f r + x
+    → sumOfFour g ≡ sumOfFour f + x
 unfolding sumOfFour
 sum-grows f g x =
     each-of-four (λ r. ((n : ℕ) → (n ≡ r → ⊥) → g n ≡ f n) → g r ≡ f r + x → g 0 + g 1 + g 2 + g 3 ≡ f 0 + f 1 + f 2 + f 3 + x)

@@ -1,8 +1,10 @@
 -- A turn is refused, idle or served.
 -- Assumes nothing.
 use mathlib.Core.Path.{_≡_, refl, sym, ap, _∙_}
-use Prim.Native.Nat.{ℕ}
+use Prim.Native.Nat.{ℕ, _<_}
 use native.Mathlib.Omega.{arith}
+use lib.ListN.{length}
+use mathlib.Core.Bool.{false}
 use Rattle.memory.specs.Window.{windowOf}
 use Rattle.command.specs.Perform.{Performance, performedOf}
 use Rattle.command.specs.Report.{emits, interrupts, wordsRead}
@@ -17,8 +19,9 @@ use Rattle.device.specs.declared.turn.Answer.{Answer}
 use Rattle.device.specs.declared.turn.Answer.the-variants.{Refused as RefusedFor, Idle, Served}
 use Rattle.device.specs.State.{ringOf, slotOf}
 use Rattle.device.specs.Ready.{pickOf}
-use Rattle.device.specs.Turn.{Call, After, unchanged, fenceOf, reportOf, finished, servedOf, pickedOf, judgedOf, verdictOn, turnOf}
-use Rattle.demands.specs.Calls.{ringIn, headIn, answerOf}
+use Rattle.device.specs.Turn.{Call, After, unchanged, fenceOf, reportOf, finished, servedOf, pickedOf, judgedOf, verdictOn, turnOf, Servable}
+use Rattle.device.proofs.Verdicts.{steady, servable}
+use Rattle.demands.specs.Calls.{ringIn, headIn, answerOf, isRefused}
 
 -- the ring that a call's turn picks
 abbrev pub pickIn : Device → Call → Picked
@@ -81,3 +84,20 @@ was-served limit d call report e =
     let ring : q ≡ report .ring = ap (λ r. r .ring) told in
     record { sound = sound; pick = p ∙ ap RingOf ring; after = sym same ∙ ap (servedIn limit d call) ring; told = rw ring at told })
     refl e
+
+-- a call that is not refused finds the marker among the rings
+pub marker-below : (d : Device) (call : Call) → verdictOn d call ≡ Sound → d .marker < 4
+unfolding verdictOn
+marker-below d call sound =
+    steady d (length (call .memory)) (call .ring0) (call .ring1) (call .ring2) (call .ring3) (length (call .pipe)) (call .pack) sound .marker
+
+pub served-heard : (limit : ℕ) (d : Device) (call : Call) (r : ℕ) → isRefused (servedIn limit d call r .turned .answer) ≡ false
+unfolding servedOf finished reportOf isRefused
+served-heard limit d call r = refl
+
+-- what a picked ring has
+pub picked-servable : (d : Device) (call : Call) (q : ℕ) → verdictOn d call ≡ Sound → pickIn d call ≡ RingOf q
+    → Servable d q (length (call .memory)) (ringIn call q) (length (call .pipe))
+unfolding verdictOn
+picked-servable d call q sound e =
+    servable d (length (call .memory)) (call .ring0) (call .ring1) (call .ring2) (call .ring3) (length (call .pipe)) (call .pack) sound q e
