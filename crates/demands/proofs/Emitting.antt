@@ -1,0 +1,50 @@
+-- A command that emits has one of the 64 slots.
+-- Assumes nothing.
+use mathlib.Core.Path.{_≡_, refl, sym, _∙_}
+use mathlib.Core.Bool.{Bool, true, false, not, _&&_, _||_}
+use mathlib.Core.List.{List}
+use Prim.Native.Nat.{ℕ, _<_}
+use native.Mathlib.Omega.{arith}
+use lib.Dec.{ltb}
+use borrow.Author.Tests.{ltb-false}
+use Rattle.command.specs.declared.header.Command.{Command}
+use Rattle.command.specs.declared.frame.Frame.{Frame}
+use Rattle.command.specs.declared.outcome.Outcome.the-variants.{Done, UnknownOpcode, ReservedFlag, WrongPayloadBit, NoSuchSlot}
+use Rattle.command.specs.Choice.{differ, either}
+use Rattle.command.specs.Faults.{headerFault}
+use Rattle.command.specs.Flags.{emitBit, waitBit, payloadBit, reservedBit}
+use Rattle.command.specs.Outcome.{outcomeNumber, isDone}
+use Rattle.command.specs.Perform.{performedOf}
+use Rattle.command.specs.Report.{emits}
+use Rattle.command.specs.Table.{rowOf}
+use Rattle.command.proofs.Choices.{both-left, both-right}
+use Rattle.demands.specs.Performs.{isEmitting, EachWork, FullSlotStays, EmitsWhenSound}
+
+-- no header fault: the slot's number is not too large
+no-fault : (unknown reserved payload slot : Bool)
+    → isDone (either unknown UnknownOpcode (either reserved ReservedFlag (either payload WrongPayloadBit (either slot NoSuchSlot Done)))) ≡ true
+    → slot ≡ false
+unfolding either outcomeNumber
+no-fault true reserved payload slot e = cc
+no-fault false true payload slot e = cc
+no-fault false false true slot e = cc
+no-fault false false false true e = cc
+no-fault false false false false e = refl
+
+fits : (emit wait : Bool) (rdst : ℕ) → emit ≡ true → ((emit || wait) && ltb 63 rdst) ≡ false → rdst < 64
+fits true wait rdst set e = omega (arith, ltb-false 63 rdst e)
+fits false wait rdst set e = absurd (let z : _≡_ {A = ℕ} 0 1 = cc in omega arith)
+
+pub emitting-slot : (c : Command) → isEmitting c ≡ true → c .rdst < 64
+unfolding isEmitting headerFault
+emitting-slot c e =
+    fits (emitBit (c .flags)) (waitBit (c .flags)) (c .rdst) (both-left (emitBit (c .flags)) (isDone (headerFault c)) e)
+    (no-fault (not (rowOf (c .opcode) .known)) (reservedBit (c .flags)) (differ (payloadBit (c .flags)) (rowOf (c .opcode) .payload)) _
+    (both-right (emitBit (c .flags)) (isDone (headerFault c)) e))
+
+-- so does a command that has added to its slot
+pub emits-in-range : FullSlotStays → EmitsWhenSound → (c : Command) (slot : ℕ) (ring window : List ℕ) (frame : Frame) (pack pipe : List ℕ) (limit : ℕ)
+    → emits c (performedOf c slot ring window frame pack pipe limit .performed .outcome) ≡ true → c .rdst < 64
+unfolding FullSlotStays EmitsWhenSound EachWork
+emits-in-range full when c slot ring window frame pack pipe limit e =
+    emitting-slot c (sym (when c slot ring window frame pack pipe limit (full c slot ring window frame pack pipe limit e)) ∙ e)

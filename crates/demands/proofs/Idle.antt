@@ -1,0 +1,199 @@
+-- When the answer is idle, no order of starts gets further than the device did.
+-- Assumes that a slot that is not full is added to exactly by a command that emits.
+use mathlib.Core.Path.{_≡_, refl, sym, ap, _∙_}
+use mathlib.Core.Bool.{Bool, true, false}
+use mathlib.Core.List.{List, [], _∷_}
+use mathlib.Core.Logic.{⊎-elim}
+use Prim.Native.Nat.{ℕ, zero, suc, _+_, _≤_, _<_}
+use native.Mathlib.Nat.{eq-or-lt-of-le}
+use native.Mathlib.Omega.{arith}
+use lib.Dec.{eqb, lit<}
+use lib.ListN.{length, getD, replicate}
+use lib.Seq.{getD-set-same}
+use borrow.Author.Tests.{eqb-true, eqb-false, eq-eqb}
+use Rattle.command.specs.declared.header.Command.{Command}
+use Rattle.command.specs.declared.perform.Performed.{Performed}
+use Rattle.command.specs.Choice.{either}
+use Rattle.command.specs.Report.{emits}
+use Rattle.device.specs.declared.state.Window.{Window}
+use Rattle.device.specs.declared.state.Device.{Device}
+use Rattle.device.specs.declared.refusal.Verdict.the-variants.{Sound}
+use Rattle.device.specs.declared.ready.Picked.the-variants.{Ring as RingOf}
+use Rattle.device.specs.declared.turn.Answer.the-variants.{Idle}
+use Rattle.device.specs.State.{freshDevice, ringOf, slotOf}
+use Rattle.device.specs.Ready.{readyAt, pickOf}
+use Rattle.device.specs.Turn.{Call, emitted, unchanged, deviceAfter, finished, reportOf, servedOf, verdictOn}
+use Rattle.device.proofs.Verdicts.{each-of-four, steady}
+use Rattle.demands.specs.Calls.{ringIn, headIn, answerOf, deviceOf, isRefused, SlotsFit, EachHeard, none, more, Formed}
+use Rattle.demands.specs.Performs.{isEmitting, EachWork, EmitsWhenSound}
+use Rattle.demands.specs.Bounded.{Lends, sumOfFour, served, taken}
+use Rattle.demands.specs.Idle.{placeOf, nth, emitsIn, countOf, oneMore, Order, nothing, start, lastOf, IdleIsDone}
+use Rattle.demands.proofs.Turns.{pickIn, servedIn, workIn, turn-cases, marker-below, served-heard, picked-servable}
+use Rattle.demands.proofs.Devices.{after-emit, after-no-emit, after-other-slot}
+use Rattle.demands.proofs.Walks.{seek-reaches, distance}
+use Rattle.demands.proofs.FourTurns.{ready-rises}
+use Rattle.demands.proofs.Bounded.{served-cursor, served-others, served-formed, served-is}
+use Rattle.demands.proofs.Emitting.{emitting-slot}
+use Rattle.demands.proofs.Orders.{hit, place-least, more-here, more-other, count-more, count-most, count-rises}
+
+-- the device has taken t q commands of each ring q
+pub record Took (R : ℕ → List ℕ) (d : Device) (t : ℕ → ℕ) : Type 0 where
+  pub formed : Formed d
+  pub cursors : (q : ℕ) → q < 4 → ringOf d q .cursor ≡ placeOf (R q) (t q)
+  pub slots : (s : ℕ) → slotOf d s ≡ countOf R t s
+
+-- a slot that is not full has one more where a command emits to it
+module _ (d : Device) (q : ℕ) (c : Command) (p : Performed) (formed : Formed d) (free : slotOf d (c .rdst) < 4294967295)
+    (when : emits c (p .outcome) ≡ isEmitting c) (s : ℕ) where
+  put : isEmitting c ≡ true → slotOf (deviceAfter d q c p) (c .rdst) ≡ emitted (slotOf d (c .rdst))
+  unfolding slotOf
+  put e = rw (after-emit d q c p (when ∙ e)) (getD-set-same (d .slots) (c .rdst) _ 0 (omega (arith, emitting-slot c e, formed .sixty-four)))
+
+  stays : isEmitting c ≡ false → slotOf (deviceAfter d q c p) s ≡ slotOf d s
+  unfolding slotOf
+  stays e = rw (after-no-emit d q c p (when ∙ e))
+
+  slot-hit : slotOf (deviceAfter d q c p) s ≡ slotOf d s + hit c s
+  unfolding either
+  slot-hit = go (isEmitting c) refl (eqb (c .rdst) s) refl
+    where
+      go : (b : Bool) → isEmitting c ≡ b → (t : Bool) → eqb (c .rdst) s ≡ t → slotOf (deviceAfter d q c p) s ≡ slotOf d s + hit c s
+      go true e true same =
+          let hits : hit c s ≡ 1 = rw (e, same) in
+          let new : slotOf (deviceAfter d q c p) s ≡ emitted (slotOf d s) = rw (← eqb-true (c .rdst) s same) (put e) in
+          let room : slotOf d s < 4294967295 = rw (eqb-true (c .rdst) s same) at free in
+          omega (arith, hits, new, room)
+      go true e false other =
+          let misses : hit c s ≡ 0 = rw (e, other) in
+          omega (arith, misses, after-other-slot d q c p s (λ same. eqb-false (c .rdst) s other (sym same)))
+      go false e t same =
+          let misses : hit c s ≡ 0 = rw e in
+          omega (arith, misses, stays e)
+
+module _ (limit : ℕ) (R : ℕ → List ℕ) where
+  -- an idle answer: no ring is ready
+  idle-unready : (d : Device) (call : Call) → answerOf limit d call ≡ Idle → (q : ℕ) → q < 4 → readyAt d q (ringIn call q) ≡ true → ⊥
+  unfolding unchanged servedOf finished reportOf pickOf
+  idle-unready d call e q four ready =
+      turn-cases limit d call (λ a. a .turned .answer ≡ Idle → ⊥)
+      (λ why v a. let z : _≡_ {A = ℕ} 0 1 = cc in omega arith)
+      (λ sound p a.
+      let away = distance (d .marker) q (marker-below d call sound) four in
+      let reached = seek-reaches (λ r. readyAt d r (ringIn call r)) 4 (away .0) (d .marker) (away .1) (rw (away .2) ready) in
+      let z : _≡_ {A = ℕ} 0 1 = cc (reached .2) in omega arith)
+      (λ r sound p a. let z : _≡_ {A = ℕ} 0 1 = cc in omega arith)
+      e
+
+  -- an order of starts stays behind a device of which no ring is ready
+  behind : (d : Device) (t : ℕ → ℕ) → Took R d t → ((q : ℕ) → q < 4 → readyAt d q (R q) ≡ true → ⊥)
+      → {n : ℕ → ℕ} → Order R n → (q : ℕ) → n q ≤ t q
+  unfolding readyAt
+  behind d t took unready nothing q = omega arith
+  behind d t took unready (start {n} before r four whole ready) q = go (λ p. behind d t took unready before p) (eqb q r) refl
+    where
+      caught-up : ((q : ℕ) → n q ≤ t q) → n r ≡ t r → ⊥
+      caught-up le same =
+          let at : ringOf d r .cursor ≡ placeOf (R r) (n r) = rw same (took .cursors r four) in
+          let c = nth (R r) (n r) in
+          let risen : countOf R n (c .rdst) ≤ slotOf d (c .rdst) = omega (arith, count-rises R n t (c .rdst) le, took .slots (c .rdst)) in
+          unready r four (rw (at, whole) (ready-rises c _ _ risen ready))
+
+      go : ((q : ℕ) → n q ≤ t q) → (b : Bool) → eqb q r ≡ b → oneMore n r q ≤ t q
+      go le true e =
+          let here : q ≡ r = eqb-true q r e in
+          rw (here, more-here n r) (⊎-elim (λ same. absurd (caught-up le same)) (λ less. less) (eq-or-lt-of-le (le r)))
+      go le false e = rw (more-other n r q (eqb-false q r e)) (le q)
+
+-- no slot is full: the rings hold at most 16,384 commands
+few : (R : ℕ → List ℕ) (d : Device) (t : ℕ → ℕ) → Took R d t → (call : Call) → verdictOn d call ≡ Sound → (s : ℕ) → slotOf d s < 4294967295
+unfolding verdictOn sumOfFour
+few R d t took call sound s =
+    let calm = steady d (length (call .memory)) (call .ring0) (call .ring1) (call .ring2) (call .ring3) (length (call .pipe)) (call .pack) sound in
+    let each : (q : ℕ) → q < 4 → t q ≤ 4096 = λ q four. omega (arith, place-least (R q) (t q), took .cursors q four, calm .cursors q four) in
+    omega (arith, took .slots s, count-most R t s, each 0 (lit< tt), each 1 (lit< tt), each 2 (lit< tt), each 3 (lit< tt))
+
+module _ (when : EmitsWhenSound) (limit : ℕ) (R : ℕ → List ℕ) where
+  -- a served ring has one more command taken
+  module _ (d : Device) (t : ℕ → ℕ) (took : Took R d t) (call : Call) (lends : Lends R call) (r : ℕ)
+      (sound : verdictOn d call ≡ Sound) (pick : pickIn d call ≡ RingOf r) where
+    ring-below : r < 4
+    ring-below = picked-servable d call r sound pick .number
+
+    head : headIn d call r ≡ nth (R r) (t r)
+    head = rw (lends r ring-below, took .cursors r ring-below)
+
+    next-cursor : (q : ℕ) → q < 4 → ringOf (servedIn limit d call r .turned .device) q .cursor ≡ placeOf (R q) (oneMore t r q)
+    unfolding placeOf
+    next-cursor q four = go (eqb q r) refl
+      where
+        go : (b : Bool) → eqb q r ≡ b → ringOf (servedIn limit d call r .turned .device) q .cursor ≡ placeOf (R q) (oneMore t r q)
+        go true e =
+            rw (eqb-true q r e, more-here t r)
+            (served-cursor limit d call (took .formed) r sound pick ∙ rw (head, took .cursors r ring-below))
+        go false e =
+            let other = eqb-false q r e in
+            rw (more-other t r q other) (served-others limit d call (took .formed) r sound pick q other ∙ took .cursors q four)
+
+    next-slot : (s : ℕ) → slotOf (servedIn limit d call r .turned .device) s ≡ countOf R (oneMore t r) s
+    unfolding servedOf finished EmitsWhenSound EachWork
+    next-slot s =
+        let c = headIn d call r in
+        let free = few R d t took call sound (c .rdst) in
+        let hits = slot-hit d r c (workIn limit d call r .performed) (took .formed) free (when _ _ _ _ _ _ _ _ (λ full. omega (arith, free, full))) s in
+        let same : hit c s ≡ hit (nth (R r) (t r)) s = ap (λ k. hit k s) head in
+        omega (arith, hits, same, took .slots s, count-more R t r s ring-below)
+
+    next-took : Took R (servedIn limit d call r .turned .device) (oneMore t r)
+    next-took = record { formed = served-formed limit d call (took .formed) r sound pick; cursors = next-cursor; slots = next-slot }
+
+    next-count : (q : ℕ) → oneMore t r q ≡ t q + served (servedIn limit d call r .turned .answer) q
+    unfolding either
+    next-count q = rw (served-is limit d call (took .formed) r sound pick q) (go (eqb q r) refl)
+      where
+        go : (b : Bool) → eqb q r ≡ b → oneMore t r q ≡ t q + either (eqb q r) 1 0
+        go true e = let here = eqb-true q r e in rw (here, more-here t r, eq-eqb r r refl) (omega arith)
+        go false e = rw (more-other t r q (eqb-false q r e), e) (omega arith)
+
+  turn-took : (d : Device) (t : ℕ → ℕ) → Took R d t → (call : Call) → (isRefused (answerOf limit d call) ≡ false → Lends R call)
+      → (u : ℕ → ℕ) × Took R (deviceOf limit d call) u × ((q : ℕ) → u q ≡ t q + served (answerOf limit d call) q)
+  unfolding unchanged served
+  turn-took d t took call =
+      turn-cases limit d call
+      (λ a. (isRefused (a .turned .answer) ≡ false → Lends R call)
+      → (u : ℕ → ℕ) × Took R (a .turned .device) u × ((q : ℕ) → u q ≡ t q + served (a .turned .answer) q))
+      (λ why v lends. (t, took, λ q. omega arith))
+      (λ v p lends. (t, took, λ q. omega arith))
+      (λ r v p lends.
+      let lent = lends (served-heard limit d call r) in
+      (oneMore t r, next-took d t took call lent r v p, next-count d t took call lent r v p))
+
+  run-took : (calls : List Call) (d : Device) (t : ℕ → ℕ) → Took R d t → EachHeard (Lends R) limit d calls
+      → (u : ℕ → ℕ) × Took R (lastOf limit d calls) u × ((q : ℕ) → u q ≡ t q + taken limit d calls q)
+  unfolding lastOf taken
+  run-took [] d t took none = (t, took, λ q. omega arith)
+  run-took (call ∷ calls) d t took (more lends each) =
+      let first = turn-took d t took call lends in
+      let rest = run-took calls (deviceOf limit d call) (first .0) (first .1) each in
+      (rest .0, rest .1, λ q. omega (arith, first .2 q, rest .2 q))
+
+zeros : (k n : ℕ) → _≡_ {A = ℕ} (getD (replicate k 0) n 0) 0
+zeros zero n = refl
+zeros (suc k) zero = refl
+zeros (suc k) (suc n) = zeros k n
+
+-- a fresh device has taken nothing
+fresh-took : (R : ℕ → List ℕ) (w0 w1 w2 w3 : Window) → Took R (freshDevice w0 w1 w2 w3) (λ q. 0)
+unfolding freshDevice SlotsFit slotOf ringOf placeOf emitsIn sumOfFour
+fresh-took R w0 w1 w2 w3 = record {
+  formed = record { slots = λ n. rw (zeros 64 n) (omega arith); sixty-four = refl; four = refl };
+  cursors = each-of-four (λ q. ringOf (freshDevice w0 w1 w2 w3) q .cursor ≡ 0) refl refl refl refl;
+  slots = zeros 64;
+}
+
+pub idle-is-done : EmitsWhenSound → IdleIsDone
+unfolding IdleIsDone
+idle-is-done when limit w0 w1 w2 w3 R calls last each lends idle n order q =
+    let ran = run-took when limit R calls (freshDevice w0 w1 w2 w3) (λ q. 0) (fresh-took R w0 w1 w2 w3) each in
+    let unready = idle-unready limit R (lastOf limit (freshDevice w0 w1 w2 w3) calls) last idle in
+    let le = behind limit R _ (ran .0) (ran .1) (λ p four ready. unready p four (rw (lends p four) ready)) order q in
+    omega (arith, le, ran .2 q)

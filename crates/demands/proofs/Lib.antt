@@ -1,0 +1,11 @@
+pub mod Turns
+pub mod Devices
+pub mod Walks
+pub mod FourTurns
+pub mod Keeps
+pub mod Emitting
+pub mod Reports
+pub mod Sums
+pub mod Bounded
+pub mod Orders
+pub mod Idle

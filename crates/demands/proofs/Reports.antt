@@ -1,0 +1,142 @@
+-- What is reported of a served command, and what it changes in the device.
+-- Assumes that a full slot is never added to, and any other exactly by a command that emits.
+use mathlib.Core.Path.{_≡_, refl, ap, subst}
+use mathlib.Core.Bool.{Bool, true, false, _&&_, _||_}
+use mathlib.Core.Logic.{_⊎_, _↔_, inl, inr, ⊎-elim}
+use Prim.Native.Nat.{ℕ, _+_, _^_, _<_}
+use native.Mathlib.Omega.{arith}
+use lib.Dec.{eqb, ltb, leb}
+use lib.Seq.{getD-set-same}
+use borrow.Author.Tests.{eqb-true, eq-eqb, leb-true, le-leb, ltb-true, lt-ltb}
+use Rattle.command.specs.declared.header.Command.{Command}
+use Rattle.command.specs.declared.outcome.Outcome.{Outcome}
+use Rattle.command.specs.declared.perform.Performed.{Performed}
+use Rattle.command.specs.Choice.{either}
+use Rattle.command.specs.Flags.{irqBit, emitBit}
+use Rattle.command.specs.Opcode.{readMem}
+use Rattle.command.specs.Outcome.{outcomeNumber, isDone}
+use Rattle.command.specs.Report.{emits, interrupts, wordsRead}
+use Rattle.command.proofs.Choices.{both-left, both-right}
+use Rattle.device.specs.declared.state.Device.{Device}
+use Rattle.device.specs.declared.turn.Report.{Report}
+use Rattle.device.specs.State.{ringOf, slotOf}
+use Rattle.device.specs.Ready.{readyAt, pickOf}
+use Rattle.device.specs.Turn.{fenceOf, ringAfter, deviceAfter, finished, servedOf}
+use Rattle.device.proofs.Verdicts.{found}
+use Rattle.demands.specs.Calls.{ringIn, headIn, deviceOf, SlotsFit, Formed}
+use Rattle.demands.specs.Performs.{EachWork, FullSlotStays, EmitsWhenSound}
+use Rattle.demands.specs.Reports.{Signals, Interrupts, Reads, Reported, TurnReports}
+use Rattle.demands.proofs.Turns.{workIn, was-served, marker-below}
+use Rattle.demands.proofs.Devices.{after-marker, after-other-ring, after-ring, after-emit, after-no-emit, after-other-slot, after-formed}
+use Rattle.demands.proofs.Emitting.{emits-in-range}
+
+both : (a b : Bool) → a ≡ true → b ≡ true → (a && b) ≡ true
+both a b p q = rw (p, q)
+
+one-of : (a b : Bool) → (a ≡ true) ⊎ (b ≡ true) → (a || b) ≡ true
+one-of true b s = refl
+one-of false b s = ⊎-elim (λ e. cc) (λ e. e) s
+
+which : (a b : Bool) → (a || b) ≡ true → (a ≡ true) ⊎ (b ≡ true)
+which true b e = inl refl
+which false b e = inr e
+
+not-held : (b : Bool) → (b ≡ true → ⊥) → b ≡ false
+not-held true f = absurd (f refl)
+not-held false f = refl
+
+module _ (c : Command) (o : Outcome) where
+  pub signals : (emits c o ≡ true) ↔ Signals c o
+  unfolding emits
+  signals = (
+    λ e. (both-left (emitBit (c .flags)) _ e, ⊎-elim (λ z. inl (eqb-true _ _ z)) (λ l. inr (leb-true _ _ l)) (which _ _ (both-right (emitBit (c .flags)) _ e))),
+    λ s. both _ _ (s .0) (one-of (eqb (outcomeNumber o) 0) (leb 6 (outcomeNumber o)) (⊎-elim (λ z. inl (eq-eqb _ _ z)) (λ l. inr (le-leb _ _ l)) (s .1))),
+  )
+
+  pub interrupts-when : (interrupts c o ≡ true) ↔ Interrupts c o
+  unfolding interrupts
+  interrupts-when = (
+    λ e. (both-left (irqBit (c .flags)) _ e, ⊎-elim (λ z. inl (eqb-true _ _ z)) (λ l. inr (ltb-true _ _ l)) (which _ _ (both-right (irqBit (c .flags)) _ e))),
+    λ s. both _ _ (s .0) (one-of (eqb (outcomeNumber o) 0) (ltb 4 (outcomeNumber o)) (⊎-elim (λ z. inl (eq-eqb _ _ z)) (λ l. inr (lt-ltb _ _ l)) (s .1))),
+  )
+
+  reads : Reads c o → wordsRead c o ≡ c .len
+  unfolding wordsRead either
+  reads r = rw (eq-eqb (c .opcode) readMem (r .0), eq-eqb (outcomeNumber o) 0 (r .1))
+
+  reads-not : (Reads c o → ⊥) → wordsRead c o ≡ 0
+  unfolding wordsRead either
+  reads-not not =
+      let is = eqb (c .opcode) readMem in
+      rw (not-held (is && isDone o) (λ e. not (eqb-true _ _ (both-left is (isDone o) e), eqb-true _ _ (both-right is (isDone o) e))))
+
+module _ (d : Device) (q : ℕ) (c : Command) (p : Performed) (formed : Formed d) (four : q < 4)
+    (full : emits c (p .outcome) ≡ true → slotOf d (c .rdst) ≡ 4294967295 → ⊥) (range : emits c (p .outcome) ≡ true → c .rdst < 64) where
+  abbrev told : Report
+  told = record {
+    ring = q;
+    outcome = p .outcome;
+    fence = fenceOf (emits c (p .outcome)) (slotOf d (c .rdst));
+    words = wordsRead c (p .outcome);
+    irq = interrupts c (p .outcome);
+  }
+
+  one-more : emits c (p .outcome) ≡ true → fenceOf (emits c (p .outcome)) (slotOf d (c .rdst)) ≡ slotOf d (c .rdst) + 1
+  unfolding fenceOf either SlotsFit
+  one-more e =
+      let below : slotOf d (c .rdst) < 2 ^ 32 = formed .slots (c .rdst) in
+      rw e (omega (arith, full e))
+
+  holds : emits c (p .outcome) ≡ true → slotOf (deviceAfter d q c p) (c .rdst) ≡ fenceOf (emits c (p .outcome)) (slotOf d (c .rdst))
+  unfolding fenceOf either slotOf
+  holds e = rw (after-emit d q c p e, e) (getD-set-same (d .slots) (c .rdst) _ 0 (omega (arith, range e, formed .sixty-four)))
+
+  silent : (Signals c (p .outcome) → ⊥) → emits c (p .outcome) ≡ false
+  silent not = not-held (emits c (p .outcome)) (λ e. not (signals c (p .outcome) .0 e))
+
+  no-fence : emits c (p .outcome) ≡ false → fenceOf (emits c (p .outcome)) (slotOf d (c .rdst)) ≡ 0
+  unfolding fenceOf either
+  no-fence e = rw e
+
+  no-signal : emits c (p .outcome) ≡ false → (n : ℕ) → slotOf (deviceAfter d q c p) n ≡ slotOf d n
+  unfolding slotOf
+  no-signal e n = rw (after-no-emit d q c p e)
+
+  moved : ringOf (deviceAfter d q c p) q ≡ ringAfter (ringOf d q) c (p .frame)
+  moved = after-ring d q c p (omega (arith, formed .four))
+
+  reported : Reported d q c told (deviceAfter d q c p)
+  unfolding ringAfter
+  reported = record {
+    fence = λ s. one-more (signals c (p .outcome) .1 s);
+    signalled = λ s. holds (signals c (p .outcome) .1 s);
+    no-fence = λ not. no-fence (silent not);
+    no-signal = λ not. no-signal (silent not);
+    other-slots = after-other-slot d q c p;
+    words = reads c (p .outcome);
+    no-words = reads-not c (p .outcome);
+    irq = interrupts-when c (p .outcome);
+    cursor = ap (λ r. r .cursor) moved;
+    window = ap (λ r. r .window) moved;
+    other-rings = after-other-ring d q c p;
+    marker = after-marker d q c p;
+  }
+
+module _ (full : FullSlotStays) (when : EmitsWhenSound) where
+  pub turn-reports : TurnReports
+  unfolding TurnReports servedOf finished pickOf EachWork FullSlotStays
+  turn-reports limit d call report formed e =
+      let was = was-served limit d call report e in
+      let q = report .ring in
+      let c = headIn d call q in
+      let p = workIn limit d call q .performed in
+      let picked = found (λ r. readyAt d r (ringIn call r)) 4 (d .marker) q (marker-below d call (was .sound)) (was .pick) in
+      record {
+        ring = picked .0;
+        ready = picked .1;
+        reported =
+            rw (deviceOf, was .after)
+            (subst (λ (r : Report). Reported d q c r (deviceAfter d q c p)) (was .told)
+            (reported d q c p formed (picked .0) (full _ _ _ _ _ _ _ _) (emits-in-range full when _ _ _ _ _ _ _ _)));
+        formed = rw (deviceOf, was .after) (after-formed d q c p formed);
+      }

@@ -1,0 +1,60 @@
+-- Demand 3, second part: when the answer is idle, no order of starts gets further than the device did.
+use Prim.Native.Nat.{ℕ, zero, suc, _+_, _≤_, _<_}
+use mathlib.Core.Path.{_≡_}
+use mathlib.Core.Bool.{true, _&&_}
+use mathlib.Core.List.{List, [], _∷_}
+use lib.Dec.{eqb}
+use Rattle.command.specs.declared.header.Command.{Command}
+use Rattle.command.specs.Choice.{either}
+use Rattle.command.specs.Header.{commandAt, isWhole}
+use Rattle.device.specs.declared.state.Window.{Window}
+use Rattle.device.specs.declared.state.Device.{Device}
+use Rattle.device.specs.declared.turn.Answer.the-variants.{Idle}
+use Rattle.device.specs.State.{freshDevice}
+use Rattle.device.specs.Ready.{readyWith}
+use Rattle.device.specs.Turn.{Call}
+use Rattle.demands.specs.Calls.{answerOf, deviceOf, EachHeard}
+use Rattle.demands.specs.Performs.{isEmitting}
+use Rattle.demands.specs.Bounded.{Lends, sumOfFour, taken}
+
+-- where the n-th command of a ring begins
+unfoldable pub placeOf : List ℕ → ℕ → ℕ
+placeOf b zero = 0
+placeOf b (suc n) = placeOf b n + commandAt b (placeOf b n) .size
+
+-- the n-th command of a ring
+abbrev pub nth : List ℕ → ℕ → Command
+nth b n = commandAt b (placeOf b n)
+
+-- how many of a ring's first n commands emit to a slot: a plain count
+unfoldable pub emitsIn : List ℕ → ℕ → ℕ → ℕ
+emitsIn b slot zero = 0
+emitsIn b slot (suc n) = emitsIn b slot n + either (isEmitting (nth b n) && eqb (nth b n .rdst) slot) 1 0
+
+-- how many commands that emit to a slot have been started, n q of each ring q
+abbrev pub countOf : (ℕ → List ℕ) → (ℕ → ℕ) → ℕ → ℕ
+countOf R n slot = sumOfFour (λ q. emitsIn (R q) slot (n q))
+
+-- one more of ring q
+unfoldable pub oneMore : (ℕ → ℕ) → ℕ → ℕ → ℕ
+oneMore n q r = either (eqb r q) (suc (n r)) (n r)
+
+-- an order in which n q commands of each ring q start: nothing has started, or
+-- one more has, which is whole, and ready against the count of those started before it
+pub data Order (R : ℕ → List ℕ) : (ℕ → ℕ) → Type 0 where
+  nothing : Order R (λ q. 0)
+  start : {n : ℕ → ℕ} → Order R n → (q : ℕ) → q < 4 → isWhole (R q) (placeOf (R q) (n q)) ≡ true
+      → readyWith (nth (R q) (n q)) (countOf R n (nth (R q) (n q) .rdst)) ≡ true → Order R (oneMore n q)
+
+-- the device that the last of the calls leaves
+unfoldable pub lastOf : ℕ → Device → List Call → Device
+lastOf limit d [] = d
+lastOf limit d (call ∷ calls) = lastOf limit (deviceOf limit d call) calls
+
+-- after calls from fresh, one more call answers idle: then no order has started more of a ring than the device took
+unfoldable pub IdleIsDone : Type 0
+IdleIsDone =
+    (limit : ℕ) (w0 w1 w2 w3 : Window) (R : ℕ → List ℕ) (calls : List Call) (last : Call)
+    → EachHeard (Lends R) limit (freshDevice w0 w1 w2 w3) calls → Lends R last
+    → answerOf limit (lastOf limit (freshDevice w0 w1 w2 w3) calls) last ≡ Idle
+    → (n : ℕ → ℕ) → Order R n → (q : ℕ) → n q ≤ taken limit (freshDevice w0 w1 w2 w3) calls q
