@@ -9,7 +9,7 @@ use native.Mathlib.Omega.{arith}
 use lib.ListN.{length, getD, set, length-set}
 use lib.Seq.{getD-set-same, getD-set-other}
 use Rattle.command.specs.declared.header.Command.{Command}
-use Rattle.command.specs.declared.perform.Performed.{Performed}
+use Rattle.command.specs.declared.work.Performed.{Performed}
 use Rattle.command.specs.Choice.{either}
 use Rattle.command.specs.Report.{emits}
 use Rattle.device.specs.declared.state.Ring.{Ring}

@@ -1,7 +1,7 @@
 -- A command that emits has one of the 64 slots.
 -- Assumes nothing.
 use mathlib.Core.Path.{_≡_, refl, sym, _∙_}
-use mathlib.Core.Bool.{Bool, true, false, not, _&&_, _||_}
+use mathlib.Core.Bool.{Bool, true, false, _&&_, _||_}
 use mathlib.Core.List.{List}
 use Prim.Native.Nat.{ℕ, _<_}
 use native.Mathlib.Omega.{arith}
@@ -10,13 +10,12 @@ use borrow.Author.Tests.{ltb-false}
 use Rattle.command.specs.declared.header.Command.{Command}
 use Rattle.command.specs.declared.frame.Frame.{Frame}
 use Rattle.command.specs.declared.outcome.Outcome.the-variants.{Done, UnknownOpcode, ReservedFlag, WrongPayloadBit, NoSuchSlot}
-use Rattle.command.specs.Choice.{differ, either}
-use Rattle.command.specs.Faults.{headerFault}
-use Rattle.command.specs.Flags.{emitBit, waitBit, payloadBit, reservedBit}
+use Rattle.command.specs.Choice.{either}
+use Rattle.command.specs.Faults.{unknownOpcode, wrongPayloadBit, noSuchSlot, headerFault}
+use Rattle.command.specs.Flags.{emitBit, waitBit, reservedBit}
 use Rattle.command.specs.Outcome.{outcomeNumber, isDone}
 use Rattle.command.specs.Perform.{performedOf}
 use Rattle.command.specs.Report.{emits}
-use Rattle.command.specs.Table.{rowOf}
 use Rattle.command.proofs.Choices.{both-left, both-right}
 use Rattle.demands.specs.Performs.{isEmitting, EachWork, FullSlotStays, EmitsWhenSound}
 
@@ -36,10 +35,10 @@ fits true wait rdst set e = omega (arith, ltb-false 63 rdst e)
 fits false wait rdst set e = absurd (let z : _≡_ {A = ℕ} 0 1 = cc in omega arith)
 
 pub emitting-slot : (c : Command) → isEmitting c ≡ true → c .rdst < 64
-unfolding isEmitting headerFault
+unfolding isEmitting headerFault noSuchSlot
 emitting-slot c e =
     fits (emitBit (c .flags)) (waitBit (c .flags)) (c .rdst) (both-left (emitBit (c .flags)) (isDone (headerFault c)) e)
-    (no-fault (not (rowOf (c .opcode) .known)) (reservedBit (c .flags)) (differ (payloadBit (c .flags)) (rowOf (c .opcode) .payload)) _
+    (no-fault (unknownOpcode c) (reservedBit (c .flags)) (wrongPayloadBit c) (noSuchSlot c)
     (both-right (emitBit (c .flags)) (isDone (headerFault c)) e))
 
 -- so does a command that has added to its slot

@@ -12,7 +12,7 @@ use lib.ListN.{length, getD, replicate}
 use lib.Seq.{getD-set-same}
 use borrow.Author.Tests.{eqb-true, eqb-false, eq-eqb}
 use Rattle.command.specs.declared.header.Command.{Command}
-use Rattle.command.specs.declared.perform.Performed.{Performed}
+use Rattle.command.specs.declared.work.Performed.{Performed}
 use Rattle.command.specs.Choice.{either}
 use Rattle.command.specs.Report.{emits}
 use Rattle.device.specs.declared.state.Window.{Window}

@@ -9,3 +9,5 @@ pub mod Sums
 pub mod Bounded
 pub mod Orders
 pub mod Idle
+pub mod Works
+pub mod Demands

@@ -6,7 +6,8 @@ use native.Mathlib.Omega.{arith}
 use lib.ListN.{length}
 use mathlib.Core.Bool.{false}
 use Rattle.memory.specs.Window.{windowOf}
-use Rattle.command.specs.Perform.{Performance, performedOf}
+use Rattle.command.specs.Perform.{performedOf}
+use Rattle.command.specs.Work.{Left}
 use Rattle.command.specs.Report.{emits, interrupts, wordsRead}
 use Rattle.device.specs.declared.state.Device.{Device}
 use Rattle.device.specs.declared.refusal.Refusal.{Refusal}
@@ -55,7 +56,7 @@ toldBy other Idle = other
 toldBy other (Served report) = report
 
 -- ring q's command, and what is reported of it
-abbrev pub workIn : ℕ → Device → Call → ℕ → Performance
+abbrev pub workIn : ℕ → Device → Call → ℕ → Left
 workIn limit d call q =
     performedOf (headIn d call q) (slotOf d (headIn d call q .rdst)) (ringIn call q)
     (windowOf (ringOf d q .window .start) (ringOf d q .window .length) (call .memory)) (ringOf d q .frame) (call .pack) (call .pipe) limit

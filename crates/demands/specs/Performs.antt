@@ -9,7 +9,8 @@ use Rattle.command.specs.declared.frame.Frame.{Frame}
 use Rattle.command.specs.Outcome.{outcomeNumber, isDone}
 use Rattle.command.specs.Faults.{headerFault}
 use Rattle.command.specs.Flags.{emitBit}
-use Rattle.command.specs.Perform.{Performance, performedOf}
+use Rattle.command.specs.Perform.{performedOf}
+use Rattle.command.specs.Work.{Left}
 use Rattle.command.specs.Report.{emits, wordsRead}
 
 -- a command that emits: its emit bit is set and it has no header fault
@@ -17,7 +18,7 @@ unfoldable pub isEmitting : Command → Bool
 isEmitting c = emitBit (c .flags) && isDone (headerFault c)
 
 -- this holds of every command's work, whatever it is given
-unfoldable pub EachWork : (Command → ℕ → List ℕ → Frame → List ℕ → Performance → Type 0) → Type 0
+unfoldable pub EachWork : (Command → ℕ → List ℕ → Frame → List ℕ → Left → Type 0) → Type 0
 EachWork P =
     (c : Command) (slot : ℕ) (ring window : List ℕ) (frame : Frame) (pack pipe : List ℕ) (limit : ℕ)
     → P c slot window frame pipe (performedOf c slot ring window frame pack pipe limit)
@@ -45,7 +46,7 @@ unfoldable pub PipeStays : Type 0
 PipeStays = EachWork (λ c slot window frame pipe p. PipeKept (wordsRead c (p .performed .outcome)) pipe (p .pipe))
 
 -- nothing is changed by a command whose outcome is 1 to 10
-pub record Untouched (window₀ : List ℕ) (frame₀ : Frame) (pipe₀ : List ℕ) (p : Performance) : Type 0 where
+pub record Untouched (window₀ : List ℕ) (frame₀ : Frame) (pipe₀ : List ℕ) (p : Left) : Type 0 where
   pub window : p .window ≡ window₀
   pub frame : p .performed .frame ≡ frame₀
   pub pipe : p .pipe ≡ pipe₀

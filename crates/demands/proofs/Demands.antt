@@ -1,0 +1,37 @@
+-- The demands hold: each statement of specs/, with nothing left to assume.
+use Rattle.demands.specs.FourTurns.{FourTurns, FourTurnsByHead}
+use Rattle.demands.specs.Keeps.{TurnKeeps, FreshMakes}
+use Rattle.demands.specs.Reports.{TurnReports}
+use Rattle.demands.specs.Bounded.{TurnsBounded}
+use Rattle.demands.specs.Idle.{IdleIsDone}
+use Rattle.demands.proofs.Works.{full-slot-stays, emits-when-sound, window-stays, pipe-stays, faults-keep}
+use Rattle.demands.proofs.FourTurns as four
+use Rattle.demands.proofs.Keeps as keeps
+use Rattle.demands.proofs.Reports as reports
+use Rattle.demands.proofs.Bounded as bounded
+use Rattle.demands.proofs.Idle as idle
+
+-- demand 1: what a turn leaves as it was
+pub turn-keeps : TurnKeeps
+turn-keeps = keeps.turn-keeps window-stays pipe-stays faults-keep
+
+pub fresh-makes : FreshMakes
+fresh-makes = keeps.fresh-makes
+
+-- demand 2: what is reported, and what changes in the device
+pub turn-reports : TurnReports
+turn-reports = reports.turn-reports full-slot-stays emits-when-sound
+
+-- demand 3: a ready ring is served within four turns
+pub four-turns : FourTurns
+four-turns = four.four-turns full-slot-stays
+
+pub four-turns-by-head : FourTurnsByHead
+four-turns-by-head = four.four-turns-by-head full-slot-stays
+
+-- demand 3: turns over unchanging rings come to an end, and when the answer is idle no order of starts gets further
+pub turns-bounded : TurnsBounded
+turns-bounded = bounded.turns-bounded
+
+pub idle-is-done : IdleIsDone
+idle-is-done = idle.idle-is-done emits-when-sound
