@@ -1,0 +1,3 @@
+pub mod SectionLaws
+pub mod PartLaws
+pub mod ParseLaws
