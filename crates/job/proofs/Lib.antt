@@ -1,3 +1,6 @@
 pub mod SectionLaws
 pub mod PartLaws
 pub mod ParseLaws
+pub mod Accepted
+pub mod LaidOut
+pub mod SoundPacks
