@@ -70,22 +70,24 @@ checked input job e =
     let kernels = both (isWhole input (s .kernels) && leb (s .kernels .count) 16) _ (p6 .0) in
     let code = both (isWhole input (s .code) && leb (s .code .count) 16384) _ (p7 .0) in
     let code-there = whole-and-few input (s .code) 16384 (code .0) in
-    let memory-there = whole-and-few input (s .memory) 4096 (p8 .0) in
-    (record {
-      short = leb-true _ _ (p0 .0);
-      windows = eqb-true _ _ (windows .1);
-      ring0 = leb-true _ _ (p2 .0);
-      ring1 = leb-true _ _ (p3 .0);
-      ring2 = leb-true _ _ (p4 .0);
-      ring3 = leb-true _ _ (p5 .0);
-      kernels = whole-and-few input (s .kernels) 16 (kernels .0) .1;
-      have-words = kernels .1;
-      code = code-there .1;
-      lie-in-code = code .1;
-      code-end = code-there .0;
-      memory = memory-there .1;
-      to-the-end = le-antisymm (memory-there .0) (leb-true _ _ (p9 .0));
-    }, accepted-same (p9 .1))
+    let memory-there = whole-and-few input (s .memory) 4096 (p8 .0) in (
+      record {
+        short = leb-true _ _ (p0 .0);
+        windows = eqb-true _ _ (windows .1);
+        ring0 = leb-true _ _ (p2 .0);
+        ring1 = leb-true _ _ (p3 .0);
+        ring2 = leb-true _ _ (p4 .0);
+        ring3 = leb-true _ _ (p5 .0);
+        kernels = whole-and-few input (s .kernels) 16 (kernels .0) .1;
+        have-words = kernels .1;
+        code = code-there .1;
+        lie-in-code = code .1;
+        code-end = code-there .0;
+        memory = memory-there .1;
+        to-the-end = le-antisymm (memory-there .0) (leb-true _ _ (p9 .0));
+      },
+      accepted-same (p9 .1),
+    )
   where
     accepted-same : {a b : Job} → Accepted a ≡ Accepted b → b ≡ a
     accepted-same e = cc

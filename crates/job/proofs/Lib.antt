@@ -4,3 +4,6 @@ pub mod ParseLaws
 pub mod Accepted
 pub mod LaidOut
 pub mod SoundPacks
+pub mod DecimalLaws
+pub mod Stores
+pub mod LineLaws

@@ -4,3 +4,6 @@ pub mod Kernels
 pub mod Checks
 pub mod Parts
 pub mod Parse
+pub mod Put
+pub mod Decimal
+pub mod Line

@@ -1,7 +1,9 @@
 // The replay job: its input taken apart, and its lines spelled.
-pub mod checks;
-pub mod kernels;
+mod checks;
+mod decimal;
+mod kernels;
+pub mod line;
 pub mod parse;
 pub mod parts;
-pub mod section;
-pub mod sections;
+mod section;
+mod sections;
