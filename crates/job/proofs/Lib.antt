@@ -7,3 +7,4 @@ pub mod SoundPacks
 pub mod DecimalLaws
 pub mod Stores
 pub mod LineLaws
+pub mod WholeCase
