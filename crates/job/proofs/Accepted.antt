@@ -9,7 +9,7 @@ use lib.Dec.{leb, eqb}
 use lib.ListN.{length}
 use borrow.Author.Tests.{leb-true, eqb-true}
 use Rattle.job.specs.declared.parse.Parsed.{Parsed}
-use Rattle.job.specs.declared.parse.Parsed.the-variants.{Accepted, Refused}
+use Rattle.job.specs.declared.parse.Parsed.the-variants.{Accepted}
 use Rattle.job.specs.declared.parts.Job.{Job}
 use Rattle.job.specs.declared.section.Section.{Section}
 use Rattle.job.specs.declared.sections.Sections.{Sections}

@@ -32,6 +32,15 @@ pub record Layout (input : List ℕ) (job : Job) : Type 0 where
   pub memory-end : job .memory .start ≤ job .memory .end
   pub to-the-end : job .memory .end ≡ length input
 
+-- each part ends inside the input
+pub record Inside (input : List ℕ) (job : Job) : Type 0 where
+  pub ring0 : job .ring0 .end ≤ length input
+  pub ring1 : job .ring1 .end ≤ length input
+  pub ring2 : job .ring2 .end ≤ length input
+  pub ring3 : job .ring3 .end ≤ length input
+  pub pack : job .pack .end ≤ length input
+  pub memory : job .memory .end ≤ length input
+
 -- how large the parts can be
 pub record Limits (input : List ℕ) (job : Job) : Type 0 where
   pub ring0 : length (bytesOf input (job .ring0)) ≤ 61440
@@ -72,10 +81,6 @@ module _ (input : List ℕ) (held : Checked input (sectionsOf input)) where
         to-the-end = held .to-the-end;
       }
 
-pub laid-out : (input : List ℕ) (job : Job) → partsOf input ≡ Accepted job → Layout input job
-laid-out input job e = let h = checked input job e in rw (h .1) (layout input (h .0))
-
-module _ (input : List ℕ) (held : Checked input (sectionsOf input)) where
   ring-most : (part : Part) → length (bytesOf input part) ≤ 61440
   ring-most part = le-trans (part-most input part) (held .short)
 
@@ -94,5 +99,20 @@ module _ (input : List ℕ) (held : Checked input (sectionsOf input)) where
         memory-words = rw memory-size (mul-mod-right 4 _);
       }
 
+pub laid-out : (input : List ℕ) (job : Job) → partsOf input ≡ Accepted job → Layout input job
+laid-out input job e = let h = checked input job e in rw (h .1) (layout input (h .0))
+
 pub within-limits : (input : List ℕ) (job : Job) → partsOf input ≡ Accepted job → Limits input job
 within-limits input job e = let h = checked input job e in rw (h .1) (within input (h .0))
+
+pub inside : (input : List ℕ) (job : Job) → partsOf input ≡ Accepted job → Inside input job
+inside input job e =
+    let l = laid-out input job e in
+    record {
+      ring0 = omega arith;
+      ring1 = omega arith;
+      ring2 = omega arith;
+      ring3 = omega arith;
+      pack = omega arith;
+      memory = omega arith;
+    }

@@ -1,11 +1,11 @@
 -- Laws of the chain of checks.
 -- Assumes nothing.
-use mathlib.Core.Path.{_≡_, refl, sym, _∙_}
+use mathlib.Core.Path.{_≡_, sym, _∙_}
 use mathlib.Core.Bool.{Bool, true, false, not}
 use Prim.Native.Nat.{ℕ}
 use borrow.Author.Tests.{not-true, not-false}
 use Rattle.job.specs.declared.parse.Parsed.{Parsed}
-use Rattle.job.specs.declared.parse.Parsed.the-variants.{Accepted, Refused}
+use Rattle.job.specs.declared.parse.Parsed.the-variants.{Refused}
 use Rattle.job.specs.Parse.{unless}
 
 -- what a function told of a check, and the branch taken upon it

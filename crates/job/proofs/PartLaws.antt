@@ -1,6 +1,6 @@
 -- Laws of the parts of the input.
 -- Assumes nothing.
-use mathlib.Core.Path.{_≡_, refl, ap, _∙_}
+use mathlib.Core.Path.{_≡_, ap}
 use mathlib.Core.List.{List, [], _∷_}
 use Prim.Native.Nat.{ℕ, zero, suc, _-_, _<_, min}
 use native.Mathlib.Nat.{zero-min, min-zero, suc-min-suc}

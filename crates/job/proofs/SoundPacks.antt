@@ -1,11 +1,10 @@
 -- Sections 6 and 7 of an accepted input are a sound kernel pack.
 -- Assumes nothing.
-use mathlib.Core.Path.{_≡_, refl, sym, ap, _∙_}
+use mathlib.Core.Path.{_≡_, refl, ap, _∙_}
 use mathlib.Core.Bool.{Bool, true, _&&_, and-eq-true-iff}
 use mathlib.Core.List.{List}
 use Prim.Native.Nat.{ℕ, zero, suc, _+_, _-_, _*_, _≤_, _<_}
 use native.Mathlib.Omega.{arith}
-use lib.Dec.{leb, eqb}
 use lib.ListN.{length, getD}
 use borrow.Author.Tests.{le-leb, eq-eqb}
 use Rattle.memory.specs.Place.{wordAt}
@@ -14,7 +13,6 @@ use Rattle.memory.proofs.Window.{window-byte, window-length}
 use Rattle.kernel.specs.Pack.{kernelCount, codeCount, allLie, soundPack}
 use Rattle.kernel.specs.Pack as pack
 use Rattle.job.specs.declared.parse.Parsed.the-variants.{Accepted}
-use Rattle.job.specs.declared.section.Section.{Section}
 use Rattle.job.specs.declared.parts.Job.{Job}
 use Rattle.job.specs.Section.{sectionAt}
 use Rattle.job.specs.Sections.{sectionsOf, kernelsOf, codeOf}

@@ -6,13 +6,11 @@ use crate::kernels::all_have_words;
 use crate::kernels::all_lie_in_code;
 use crate::section::Section;
 use crate::section::is_whole;
+use kernel::pack::MOST_CODE;
+use kernel::pack::MOST_KERNELS;
 use words::choice::both;
 
-pub const MOST_KERNELS: u32 = 16;
-
-pub const MOST_CODE: u32 = 16384;
-
-pub const MOST_MEMORY: u32 = 4096;
+const MOST_MEMORY: u32 = 4096;
 
 pub fn windows_are_sound(input: &[u8], windows: Section) -> bool
     ensures { λ r. ⌜ r ≡ windowsSound (now (input .entry)) windows ⌝ }

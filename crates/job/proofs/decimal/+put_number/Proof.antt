@@ -1,6 +1,6 @@
 -- `job::decimal::put_number` meets its contract. It calls itself at the tenth of its number, which is the measure.
 -- Assumes nothing.
-use mathlib.Core.Path.{refl, ap, _∙_}
+use mathlib.Core.Path.{refl, ap}
 use native.Mathlib.Omega.{arith}
 use lib.ListN.{length, length-set}
 use Rattle.job.proofs.DecimalLaws.{decimal-small, length-more, put-more}
@@ -55,7 +55,7 @@ put-number-same-length : (t : ℕ) → put-number-lts.Need-same-length (
   put-number-below t,
   put-number.Post,
 ) (put-number-at t) put-number.Post
-put-number-same-length t c = length-set (c .before .before .before .args .out .now) (c .before .before .before .args .at) (c .digit-byte .result)
+put-number-same-length t c = simp length-set
 
 put-number-returns : (t : ℕ) → put-number-lts.Need-returns (
   digit-byte-reads.Asked,
@@ -103,7 +103,7 @@ put-number-same-length-2 : (t : ℕ) → put-number-lts.Need-same-length-2 (
   put-number-below t,
   put-number.Post,
 ) (put-number-at t) put-number.Post
-put-number-same-length-2 t c = length-set (c .before .before .before .put-number .last .0) (c .before .before .before .put-number .result) (c .digit-byte2 .result) ∙ c .before .before .before .put-number .kept .0
+put-number-same-length-2 t c = simp length-set (c .before .before .before .put-number .kept .0)
 
 put-number-returns-2 : (t : ℕ) → put-number-lts.Need-returns-2 (
   digit-byte-reads.Asked,
