@@ -5,6 +5,7 @@ use mathlib.Core.List.{List, [], _∷_, _++_, append-assoc}
 use Prim.Native.Nat.{ℕ, _+_, _≤_}
 use native.Mathlib.Omega.{arith}
 use lib.ListN.{length, length-append}
+use lib.Seq.{length-sets}
 use Rattle.job.specs.Put.{Put, Spelled}
 use Rattle.job.specs.Decimal.{decimal}
 use Rattle.job.specs.Line.{lineOf, idleWord, refusedWord, turnLine, idleLine, refusedLine}
@@ -16,9 +17,13 @@ join {m} {a} {b} {at} p q =
     record { stored = rw sets-append (cc); place = simp length-append (omega arith) }
 
 -- what is put at the front, in lent bytes that have the room, is spelled there
-pub spelled : {line m m₁ : List ℕ} {r : ℕ} → Put m 0 line m₁ r → r ≤ 64 → r ≤ length m → Spelled line m m₁ r
-spelled {line} {m} p few fits =
-    record { bytes = p .stored ∙ sets-front m line (omega arith); counted = omega arith; room = few }
+pub spelled : {line m m₁ : List ℕ} {r : ℕ} → Put m 0 line m₁ r → r ≤ length m → Spelled line m m₁ r
+spelled {line} {m} p fits =
+    record {
+      bytes = p .stored ∙ sets-front m line (omega arith);
+      counted = omega arith;
+      room = rw (p .stored, length-sets) fits;
+    }
 
 -- a word and the byte after it
 abbrev pub field : List ℕ → ℕ → List ℕ

@@ -27,7 +27,7 @@ put-field-requires : tie.Need-put-field-requires
 put-field-requires c κs = search needs
 
 returns : tie.Need-returns
-returns c = rw (← idle-line _) (spelled (join {a = field idleWord 32} (record { stored = refl; place = refl }) (c .put-field .ensures .0)) (omega arith) (omega (arith, simp length-set at (c .before .put-field-arg .given .0 .1))))
+returns c = rw (← idle-line _) (spelled (join {a = field idleWord 32} (record { stored = refl; place = refl }) (c .put-field .ensures .0)) (omega (arith, simp length-set at (c .before .put-field-arg .given .0 .1))))
 
 pub spell-idle-spec : {M : Type 1} → statement M
 spell-idle-spec =

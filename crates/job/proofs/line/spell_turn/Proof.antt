@@ -21,7 +21,7 @@ put-field-requires-5 : tie.Need-put-field-requires-5
 put-field-requires-5 c κs = search needs
 
 returns : tie.Need-returns
-returns c = rw (← turn-line _ _ _ _ _) (spelled (join (c .before .before .before .before .before .before .before .before .put-field .ensures .0) (join (c .before .before .before .before .before .before .put-field2 .ensures .0) (join (c .before .before .before .before .put-field3 .ensures .0) (join (c .before .before .put-field4 .ensures .0) (c .put-field5 .ensures .0))))) (omega arith) (omega arith))
+returns c = rw (← turn-line _ _ _ _ _) (spelled (join (c .before .before .before .before .before .before .before .before .put-field .ensures .0) (join (c .before .before .before .before .before .before .put-field2 .ensures .0) (join (c .before .before .before .before .put-field3 .ensures .0) (join (c .before .before .put-field4 .ensures .0) (c .put-field5 .ensures .0))))) (omega arith))
 
 pub spell-turn-spec : {M : Type 1} → statement M
 spell-turn-spec =
