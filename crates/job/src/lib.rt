@@ -1,4 +1,4 @@
-// The replay job: its input taken apart, and its lines spelled.
+// The replay job: its input taken apart and its lines spelled.
 mod checks;
 mod decimal;
 mod kernels;
