@@ -1,0 +1,10 @@
+pub mod SectionLaws
+pub mod PartLaws
+pub mod ParseLaws
+pub mod Accepted
+pub mod LaidOut
+pub mod SoundPacks
+pub mod DecimalLaws
+pub mod Stores
+pub mod LineLaws
+pub mod WholeCase

@@ -1,0 +1,53 @@
+-- `job::kernels::all_have_words` meets its contract. Assumes nothing.
+use Prim.Native.Nat.{_-_, _≤_}
+use mathlib.Core.Path.{_≡_, refl}
+use native.Mathlib.Numerals.{add-one}
+use native.Mathlib.Omega.{arith}
+use native.Mathlib.Nat.{le-antisymm}
+use borrow.Author.Needs.{needs}
+use Rattle.job.specs.Kernels.{hasWord, allBelow}
+use Rattle.job.proofs.kernels.all_have_words.Statement.{statement}
+use Rattle.job.proofs.kernels.all_have_words.Tie as tie
+
+abbrev Inv-loop : tie.InvT-loop
+Inv-loop input start n all₀ k₀ all k = (k ≤ n) × (all ≡ allBelow (hasWord input start) k)
+
+abbrev μ-loop : tie.MeasureT-loop
+μ-loop input start n all₀ k₀ all k = n - k
+
+loop-holds : tie.Need-loop-holds Inv-loop μ-loop
+unfolding allBelow
+loop-holds c = (omega arith, refl)
+
+has-word-requires : tie.Need-has-word-requires Inv-loop μ-loop
+has-word-requires c κs = search needs
+
+both-requires : tie.Need-both-requires Inv-loop μ-loop
+both-requires c κs = search needs
+
+add-k : tie.Need-add-k Inv-loop μ-loop
+add-k c = omega arith
+
+loop-less : tie.Need-loop-less Inv-loop μ-loop
+loop-less c = omega arith
+
+loop-again : tie.Need-loop-again Inv-loop μ-loop
+unfolding allBelow
+loop-again c = (omega arith, rw add-one (cc))
+
+returns : tie.Need-returns Inv-loop μ-loop
+returns c = cc (le-antisymm (c .before .loop .inv .0) (c .loop-test .left))
+
+pub all-have-words-spec : {M : Type 1} → statement M
+all-have-words-spec =
+    tie.close
+    (tie.spec
+    Inv-loop
+    μ-loop
+    loop-holds
+    has-word-requires
+    both-requires
+    add-k
+    loop-less
+    loop-again
+    returns)

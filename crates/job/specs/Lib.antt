@@ -1,0 +1,9 @@
+pub mod Section
+pub mod Sections
+pub mod Kernels
+pub mod Checks
+pub mod Parts
+pub mod Parse
+pub mod Put
+pub mod Decimal
+pub mod Line
