@@ -31,7 +31,7 @@ put-number-digit-byte-requires : (t : ℕ) → put-number-lts.Need-digit-byte-re
   put-number-below t,
   put-number.Post,
 ) (put-number-at t) put-number.Post
-put-number-digit-byte-requires t c κs = c .if1 .taken
+put-number-digit-byte-requires t c κs = omega arith
 
 put-number-slice-write-out : (t : ℕ) → put-number-lts.Need-slice-write-out (
   digit-byte-reads.Asked,
@@ -39,7 +39,7 @@ put-number-slice-write-out : (t : ℕ) → put-number-lts.Need-slice-write-out (
   put-number-below t,
   put-number.Post,
 ) (put-number-at t) put-number.Post
-put-number-slice-write-out t c = omega (arith, ap length (decimal-small _ (c .before .if1 .taken)))
+put-number-slice-write-out t c = omega (arith, ap length (decimal-small (c .before .before .before .args .n) (omega arith)))
 
 put-number-add-result : (t : ℕ) → put-number-lts.Need-add-result (
   digit-byte-reads.Asked,
@@ -63,7 +63,7 @@ put-number-returns : (t : ℕ) → put-number-lts.Need-returns (
   put-number-below t,
   put-number.Post,
 ) (put-number-at t) put-number.Post
-put-number-returns t c = rw (decimal-small _ (c .before .if1 .taken)) (record { stored = rw (c .digit-byte .ensures); place = refl })
+put-number-returns t c = rw (decimal-small (c .before .before .before .args .n) (omega arith)) (record { stored = rw (c .digit-byte .ensures); place = refl })
 
 put-number-put-number-requires : (t : ℕ) → put-number-lts.Need-put-number-requires (
   digit-byte-reads.Asked,

@@ -1,5 +1,7 @@
 -- `job::parse::take_apart` meets its contract. Assumes nothing.
 use Rattle.job.proofs.ParseLaws.{refused, passed, failed, held}
+use native.Mathlib.Omega.{arith}
+use lib.ListN.{length}
 use borrow.Author.Tests.{lt-leb, le-leb}
 use Rattle.job.specs.Parse.{partsOf}
 use borrow.Author.Needs.{needs}
@@ -8,7 +10,7 @@ use Rattle.job.proofs.parse.take_apart.Tie as tie
 
 returns : tie.Need-returns
 unfolding partsOf
-returns c = refused _ _ _ (lt-leb _ _ (c .if1 .taken))
+returns c = refused _ _ _ (lt-leb (length (c .before .before .args .input .now)) 61440 (omega arith))
 
 sections-of-requires : tie.Need-sections-of-requires
 sections-of-requires c κs = search needs
