@@ -4,12 +4,18 @@ use Rattle.demands.specs.Keeps.{TurnKeeps, FreshMakes}
 use Rattle.demands.specs.Reports.{TurnReports}
 use Rattle.demands.specs.Bounded.{TurnsBounded}
 use Rattle.demands.specs.Idle.{IdleIsDone}
+use Rattle.demands.specs.StepByStep.{EachStep}
+use Rattle.demands.specs.OneAnswer.{OneAnswer}
+use Rattle.demands.specs.Table.{Table}
 use Rattle.demands.proofs.Works.{full-slot-stays, emits-when-sound, window-stays, pipe-stays, faults-keep}
 use Rattle.demands.proofs.FourTurns as four
 use Rattle.demands.proofs.Keeps as keeps
 use Rattle.demands.proofs.Reports as reports
 use Rattle.demands.proofs.Bounded as bounded
 use Rattle.demands.proofs.Idle as idle
+use Rattle.demands.proofs.EachStep as steps
+use Rattle.demands.proofs.OneAnswer as one
+use Rattle.demands.proofs.Table as worked
 
 -- demand 1: what a turn leaves as it was
 pub turn-keeps : TurnKeeps
@@ -21,6 +27,10 @@ fresh-makes = keeps.fresh-makes
 -- demand 2: what is reported, and what changes in the device
 pub turn-reports : TurnReports
 turn-reports = reports.turn-reports full-slot-stays emits-when-sound
+
+-- demand 2, down to each step of each thread
+pub each-step : EachStep
+each-step = steps.each-step
 
 -- demand 3: a ready ring is served within four turns
 pub four-turns : FourTurns
@@ -35,3 +45,11 @@ turns-bounded = bounded.turns-bounded
 
 pub idle-is-done : IdleIsDone
 idle-is-done = idle.idle-is-done emits-when-sound
+
+-- no second answer meets a contract
+pub one-answer : OneAnswer
+one-answer = one.one-answer
+
+-- the examples worked by hand, P1 to P12
+pub table : Table
+table = worked.table

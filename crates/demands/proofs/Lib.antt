@@ -11,3 +11,6 @@ pub mod Orders
 pub mod Idle
 pub mod Works
 pub mod Demands
+pub mod Table
+pub mod OneAnswer
+pub mod EachStep

@@ -5,3 +5,6 @@ pub mod Reports
 pub mod FourTurns
 pub mod Bounded
 pub mod Idle
+pub mod Table
+pub mod OneAnswer
+pub mod StepByStep

@@ -1,0 +1,112 @@
+-- The examples that were worked by hand, as whole calls and as steps of a thread.
+use Prim.Native.Nat.{ℕ, _+_, _*_, _^_, _≤_, _<_}
+use mathlib.Core.Path.{_≡_}
+use mathlib.Core.Bool.{false}
+use mathlib.Core.List.{List, [], _∷_, _++_}
+use lib.ListN.{length, replicate}
+use Rattle.words.specs.Bytes.{byteOf}
+use Rattle.words.specs.declared.lanes.LaneOp.the-variants.{Add}
+use Rattle.words.specs.declared.lanes.LaneType.the-variants.{I16, I8}
+use Rattle.words.specs.Lanes.{lanesOf}
+use Rattle.memory.specs.Place.{withWord}
+use Rattle.instruction.specs.declared.list.Op.the-variants.{Unary}
+use Rattle.instruction.specs.declared.list.UnaryOp.the-variants.{Abs}
+use Rattle.instruction.specs.declared.effect.Stop.the-variants.{OutsideTheWindow as NotInTheWindow, OutOfSteps}
+use Rattle.instruction.specs.Decode.{opOf}
+use Rattle.kernel.specs.declared.dispatch.Ran.the-variants.{Stopped}
+use Rattle.kernel.specs.Dispatch.{dispatchOf}
+use Rattle.kernel.proofs.Examples.{freshThread, afterWord, scalar, packOf}
+use Rattle.command.specs.declared.outcome.Outcome.{Outcome}
+use Rattle.command.specs.declared.outcome.Outcome.the-variants.{NoFrame, OutsideTheWindow}
+use Rattle.command.specs.declared.frame.Frame.the-variants.{Held}
+use Rattle.device.specs.declared.state.Device.{Device}
+use Rattle.device.specs.declared.turn.Answer.{Answer}
+use Rattle.device.specs.declared.turn.Answer.the-variants.{Refused, Idle, Served}
+use Rattle.device.specs.State.{emptyWindow, freshRing}
+use Rattle.device.specs.Turn.{Call, callOf, turnOf}
+
+-- a word's bytes, and a command's 16 bytes
+abbrev pub wordBytes : ℕ → List ℕ
+wordBytes w = byteOf 0 w ∷ byteOf 1 w ∷ byteOf 2 w ∷ byteOf 3 w ∷ []
+
+abbrev pub header : ℕ → ℕ → ℕ → ℕ → ℕ → ℕ → ℕ → List ℕ
+header opcode flags rdst len arg0 arg1 arg2 = opcode ∷ flags ∷ rdst ∷ len ∷ (wordBytes arg0 ++ (wordBytes arg1 ++ wordBytes arg2))
+
+-- a device whose ring 0 has a window of n bytes and a frame of stride 16, its marker at m
+abbrev pub framed : ℕ → ℕ → Device
+framed n m = record {
+  rings = record { window = record { start = 0; length = n }; cursor = 0; frame = Held 0 16 0 }
+      ∷ freshRing emptyWindow ∷ freshRing emptyWindow ∷ freshRing emptyWindow ∷ [];
+  slots = replicate 64 0;
+  marker = m;
+}
+
+-- a call with these rings, n zero bytes of memory and no kernels
+abbrev pub lent : ℕ → List ℕ → List ℕ → List ℕ → List ℕ → Call
+lent n r0 r1 r2 r3 = callOf (replicate n 0) r0 r1 r2 r3 (replicate 8 0) (replicate 1020 0)
+
+-- FILL_RECT at 4 in a window of n bytes
+abbrev pub fillAt4 : ℕ → ℕ → ℕ → Call
+fillAt4 n width height = lent n (header 0x10 0 0 0 4 (width + height * 2 ^ 16) 0xAABBCCDD) [] [] []
+
+-- n zero bytes with the color at these places
+unfoldable pub colored : List ℕ → ℕ → List ℕ
+colored [] n = replicate n 0
+colored (a ∷ places) n = withWord (colored places n) a 0xAABBCCDD
+
+-- the outcome of a turn that served
+abbrev pub served0 : Outcome → Answer
+served0 outcome = Served (record { ring = 0; outcome = outcome; fence = 0; words = 0; irq = false })
+
+-- the ring that an answer names; 4 for none
+unfoldable pub ringNamed : Answer → ℕ
+ringNamed (Refused why) = 4
+ringNamed Idle = 4
+ringNamed (Served report) = report .ring
+
+-- BARRIER, and the same waiting for slot s to hold 1, or emitting to it
+abbrev pub barrier : List ℕ
+barrier = header 0x22 0 0 0 0 0 0
+
+abbrev pub waitFor : ℕ → List ℕ
+waitFor s = header 0x22 4 s 0 0 0 0 ++ wordBytes 1
+
+abbrev pub emitTo : ℕ → List ℕ
+emitTo s = header 0x22 2 s 0 0 0 0
+
+-- the rings that the first turns of calls over unchanging rings serve
+abbrev pub first4 : Call → (ℕ × ℕ × ℕ × ℕ) → Type 0
+first4 call order =
+    let t1 = turnOf 4096 (framed 64 1) call .turned in
+    let t2 = turnOf 4096 (t1 .device) call .turned in
+    let t3 = turnOf 4096 (t2 .device) call .turned in
+    let t4 = turnOf 4096 (t3 .device) call .turned in
+    (ringNamed (t1 .answer), ringNamed (t2 .answer), ringNamed (t3 .answer), ringNamed (t4 .answer)) ≡ order
+
+pub record Table : Type 0 where
+  -- window 64, stride 16, fill at 4, 2 by 3: words at 4, 8, 20, 24, 36, 40
+  pub p1 : turnOf 4096 (framed 64 0) (fillAt4 64 2 3) .memory ≡ colored (4 ∷ 8 ∷ 20 ∷ 24 ∷ 36 ∷ 40 ∷ []) 64
+  -- window 40: 8 (the end is 44)
+  pub p2 : turnOf 4096 (framed 40 0) (fillAt4 40 2 3) .turned .answer ≡ served0 OutsideTheWindow
+  -- width 5: 7
+  pub p3 : turnOf 4096 (framed 64 0) (fillAt4 64 5 3) .turned .answer ≡ served0 NoFrame
+  -- FFF00297 (ADDI s5, s0, -1): 4,294,967,295
+  pub p4 : scalar 5 (afterWord 0xFFF00297 freshThread) ≡ 4294967295
+  -- then 0052830B (ADD s6, s5, s5): 4,294,967,294
+  pub p5 : scalar 6 (afterWord 0x0052830B (afterWord 0xFFF00297 freshThread)) ≡ 4294967294
+  -- 0002930B is ABS: 1
+  pub p6 : (opOf 0x0002930B ≡ Unary Abs) × (scalar 6 (afterWord 0x0002930B (afterWord 0xFFF00297 freshThread)) ≡ 1)
+  -- 0600030B (CLZ of s0): 32
+  pub p7 : scalar 6 (afterWord 0x0600030B freshThread) ≡ 32
+  -- FE502E0D (SW at -4 from s0): 13
+  pub p8 : (groups threads : ℕ) (window : List ℕ) → 1 ≤ groups → 1 ≤ threads → length window < 2 ^ 32
+      → dispatchOf 4096 (packOf 0xFE502E0D) 0 groups threads window ≡ record { ran = Stopped NotInTheWindow; window = window }
+  -- 0000000E branches to itself: 14
+  pub p9 : (groups threads : ℕ) (window : List ℕ) → 1 ≤ groups → 1 ≤ threads
+      → dispatchOf 4096 (packOf 0x0000000E) 0 groups threads window ≡ record { ran = Stopped OutOfSteps; window = window }
+  -- VADD.I8 of 010000FF and 01000001: 02000000; as I16: 02000100
+  pub p10 : (lanesOf Add I8 0x010000FF 0x01000001 ≡ 0x02000000) × (lanesOf Add I16 0x010000FF 0x01000001 ≡ 0x02000100)
+  -- marker 1, all ready: order 1, 2, 3, 0
+  pub p11 : first4 (lent 64 barrier barrier barrier barrier) (1, 2, 3, 0)
+  -- two rings, each waiting for the other's next emit: idle at once
+  pub p12 : turnOf 4096 (framed 64 0) (lent 64 (waitFor 0 ++ emitTo 1) (waitFor 1 ++ emitTo 0) [] []) .turned .answer ≡ Idle
