@@ -1,0 +1,22 @@
+/* A ring's window on the memory: addresses count from the window's start. */
+#include "parts.h"
+
+/* The end is not wrapped, so it is counted in 64 bits. */
+int ind_holds(const struct ind_window *window, uint32_t address,
+              uint64_t bytes)
+{
+    return (uint64_t)address + bytes <= window->length;
+}
+
+/* Load and store ask for held bytes only. */
+uint32_t ind_load(const struct ind_window *window, uint32_t address,
+                  uint32_t count)
+{
+    return ind_get(window->memory + ((size_t)window->start + address), count);
+}
+
+void ind_store(const struct ind_window *window, uint32_t address,
+               uint32_t count, uint32_t value)
+{
+    ind_put(window->memory + ((size_t)window->start + address), count, value);
+}

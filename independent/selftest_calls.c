@@ -1,0 +1,313 @@
+/* Whole calls: a fresh device, refusals 101 to 105, packs, and odd states. */
+#include "bench.h"
+
+#include <string.h>
+
+static void fresh_devices(void)
+{
+    const uint32_t good[4][2] = {{0, 16}, {16, 0}, {8, 8}, {0, 0}};
+    const uint32_t bad[6][2] = {
+        {0, 20}, {20, 0}, {2, 4}, {0, 6}, {0xFFFFFFFC, 8}, {4, 0xFFFFFFFC}
+    };
+    struct ind_device device, empty;
+
+    memset(&empty, 0, sizeof empty);
+    memset(&device, 0xEE, sizeof device);
+    CHECK_EQ(ind_fresh(&device, 16, good), 0);
+    CHECK_EQ(device.rings[2].window_start, 8);
+    CHECK_EQ(device.rings[2].window_length, 8);
+    for (uint32_t i = 0; i < 4; i++)
+        device.rings[i].window_start = device.rings[i].window_length = 0;
+    CHECK_EQ(memcmp(&device, &empty, sizeof device), 0);
+    for (uint32_t i = 0; i < 6 * 4; i++) {
+        uint32_t windows[4][2];
+        memcpy(windows, good, sizeof windows);
+        memcpy(windows[i % 4], bad[i / 4], sizeof windows[0]);
+        memset(&device, 0xEE, sizeof device);
+        CHECK_EQ(ind_fresh(&device, 16, (const uint32_t(*)[2])windows), 101);
+        CHECK_EQ(memcmp(&device, &empty, sizeof device), 0);
+    }
+    CHECK_EQ(ind_fresh(&device, 1048576, good), 0);
+    CHECK_EQ(ind_fresh(&device, 1048577, good), 101);
+    CHECK_EQ(ind_fresh(&device, UINT64_MAX, good), 101);
+    CHECK_EQ(ind_fresh(&device, 17, good), 0);
+}
+
+/* A bench whose next turn would be served: an emitting READ_MEM. */
+static struct bench *would_serve(void)
+{
+    struct bench *bench = bench_new(64);
+
+    push(bench, 0, head(0x02, 3, 0, 1), 0, 0, 0);
+    return bench;
+}
+
+static void refusals_101(void)
+{
+    struct bench *bench = would_serve();
+    struct ind_ring *ring = &bench->device.rings[3];
+
+    bench->memory_len = 1048577;
+    bench_unserved(bench, 101);
+    bench->memory_len = 63;
+    bench_unserved(bench, 101);
+    bench->memory_len = 64;
+    ring->window_length = 68;
+    bench_unserved(bench, 101);
+    ring->window_length = 62;
+    bench_unserved(bench, 101);
+    ring->window_length = 4;
+    ring->window_start = 62;
+    bench_unserved(bench, 101);
+    ring->window_start = 0xFFFFFFFC;
+    bench_unserved(bench, 101);
+    ring->window_start = 68;
+    ring->window_length = 0;
+    bench_unserved(bench, 101);
+    ring->window_start = 64;
+    bench->memory_len = 1048576;
+    CHECK_EQ(bench_turn(bench), IND_SERVED);
+    bench_free(bench);
+}
+
+static void refusals_102(void)
+{
+    struct bench *bench = would_serve();
+    struct ind_ring *ring = &bench->device.rings[2];
+    const struct ind_frame bad[] = {
+        {1, 2, 16, 0}, {1, 0, 18, 0}, {1, 64, 16, 0}, {1, 0, 0, 0},
+        {1, 0, 65540, 0}, {1, 0, 16, 1}, {0xFFFFFFFF, 0, 16, 1}
+    };
+    const struct ind_frame good[] = {
+        {0, 2, 18, 1}, {1, 60, 65536, 0}, {2, 0, 4, 0}
+    };
+
+    bench->device.marker = 4;
+    bench_unserved(bench, 102);
+    bench->device.marker = 0xFFFFFFFF;
+    bench_unserved(bench, 102);
+    bench->device.marker = 3;
+    ring->cursor = 65537;
+    bench_unserved(bench, 102);
+    ring->cursor = 0;
+    for (size_t i = 0; i < sizeof bad / sizeof bad[0]; i++) {
+        ring->frame = bad[i];
+        bench_unserved(bench, 102);
+    }
+    for (size_t i = 0; i < sizeof good / sizeof good[0]; i++) {
+        ring->frame = good[i];
+        bench->device.rings[0].cursor = 0;
+        CHECK_EQ(bench_turn(bench), IND_SERVED);
+    }
+    bench_free(bench);
+}
+
+static void refusals_103_to_105(void)
+{
+    struct bench *bench = would_serve();
+
+    bench->ring_len[1] = 65537;
+    bench_unserved(bench, 103);
+    bench->ring_len[1] = 65536;
+    CHECK_EQ(bench_turn(bench), IND_SERVED);
+    bench->ring_len[1] = 0;
+    bench->device.rings[0].cursor = 17;
+    bench_unserved(bench, 103);
+    bench->device.rings[0].cursor = 0;
+    bench->pipe_len = 1019;
+    bench_unserved(bench, 104);
+    bench->pipe_len = 1020;
+    bench->pack_len = 7;
+    bench_unserved(bench, 105);
+    bench->pack_len = 12;
+    bench_unserved(bench, 105);
+    bench->pack_len = 8;
+    CHECK_EQ(bench_turn(bench), IND_SERVED);
+    bench_free(bench);
+}
+
+/* All five at once, then one mended at a time: the order is 101 to 105. */
+static void refusal_order(void)
+{
+    struct bench *bench = would_serve();
+
+    bench->memory_len = 60;
+    bench->device.marker = 4;
+    bench->ring_len[3] = 65537;
+    bench->pipe_len = 0;
+    bench->pack_len = 0;
+    bench_unserved(bench, 101);
+    bench->memory_len = 64;
+    bench_unserved(bench, 102);
+    bench->device.marker = 0;
+    bench_unserved(bench, 103);
+    bench->ring_len[3] = 0;
+    bench_unserved(bench, 104);
+    bench->pipe_len = 1020;
+    bench_unserved(bench, 105);
+    bench->pack_len = 8;
+    CHECK_EQ(bench_turn(bench), IND_SERVED);
+    bench_free(bench);
+}
+
+/* Kernels (first, words) twice and a code count, zeros for code. */
+static int faulty(const uint32_t *numbers, uint32_t count, uint32_t code_words)
+{
+    uint8_t bytes[256] = {0};
+
+    for (uint32_t i = 0; i < count; i++)
+        put_word(bytes + 4 * i, numbers[i]);
+    return ind_pack_faulty(bytes, 4 * (size_t)(count + code_words));
+}
+
+static void packs(void)
+{
+    const uint32_t good[] = {2, 0, 3, 1, 2, 3};
+    const uint32_t no_words[] = {2, 0, 3, 1, 0, 3};
+    const uint32_t outside[] = {2, 0, 3, 2, 2, 3};
+    const uint32_t wrapped[] = {2, 0, 3, 0xFFFFFFFF, 2, 3};
+    struct ind_kernel kernel;
+    uint8_t bytes[36] = {0};
+
+    CHECK_EQ(faulty(good, 6, 3), 0);
+    CHECK_EQ(faulty(good, 6, 2), 1);
+    CHECK_EQ(faulty(good, 6, 4), 1);
+    CHECK_EQ(faulty(good, 5, 0), 1);
+    CHECK_EQ(faulty(no_words, 6, 3), 1);
+    CHECK_EQ(faulty(outside, 6, 3), 1);
+    CHECK_EQ(faulty(wrapped, 6, 3), 1);
+    CHECK_EQ(ind_pack_faulty(NULL, 0), 1);
+    for (uint32_t i = 0; i < 6; i++)
+        put_word(bytes + 4 * i, good[i]);
+    CHECK_EQ(ind_kernel_extent(bytes, 36, 1, &kernel), 1);
+    CHECK_EQ(kernel.first, 1);
+    CHECK_EQ(kernel.words, 2);
+    CHECK_EQ((size_t)(kernel.code - bytes), 28);
+    CHECK_EQ(ind_kernel_extent(bytes, 36, 2, &kernel), 0);
+    CHECK_EQ(ind_kernel_extent(bytes, 35, 0, &kernel), 0);
+}
+
+/* The most kernels and the most code, and one more of each. */
+static void largest_pack(void)
+{
+    struct bench *bench = bench_new(0);
+
+    for (uint32_t kernels = 16; kernels <= 17; kernels++) {
+        for (uint32_t words = 16384; words <= 16385; words++) {
+            put_word(bench->pack, kernels);
+            for (uint32_t i = 0; i < kernels; i++) {
+                put_word(bench->pack + 4 + 8 * i, i);
+                put_word(bench->pack + 8 + 8 * i, words - i);
+            }
+            put_word(bench->pack + 4 + 8 * kernels, words);
+            bench->pack_len = 8 + 8 * kernels + 4 * words;
+            CHECK_EQ(bench_turn(bench),
+                     kernels == 16 && words == 16384 ? IND_IDLE : 105);
+        }
+    }
+    bench_free(bench);
+}
+
+/* No memory and no rings but ring 0: null pointers are never followed. */
+static void nothing_lent(void)
+{
+    const uint32_t words[] = {s_shape(0, 0, 0, 0), WFI};
+    const uint8_t *ring[4] = {NULL, NULL, NULL, NULL};
+    struct bench *bench = bench_new(0);
+
+    pack_one(bench, words, 2);
+    push(bench, 0, head(0x01, 8, 0, 0), 0, 0, 0);
+    push(bench, 0, head(0x02, 0, 0, 0), 0, 0, 0);
+    push(bench, 0, head(0x23, 0, 0, 0), 0, 0, 0);
+    push(bench, 0, head(0x20, 0, 0, 0), 1, 1, 0);
+    ring[0] = bench->ring[0];
+    for (uint32_t turn = 0; turn < 5; turn++) {
+        CHECK_EQ(ind_turn(&bench->device, NULL, 0, ring, bench->ring_len,
+                          bench->pack, bench->pack_len, bench->pipe,
+                          bench->pipe_len, &bench->report),
+                 turn == 4 ? IND_IDLE : IND_SERVED);
+        CHECK_EQ(bench->report.outcome, turn == 3 ? 13 : 0);
+    }
+    CHECK_EQ(ind_turn(&bench->device, NULL, 0, ring, bench->ring_len, NULL, 0,
+                      bench->pipe, bench->pipe_len, &bench->report), 105);
+    CHECK_EQ(ind_turn(&bench->device, NULL, 0, ring, bench->ring_len, NULL, 0,
+                      NULL, 0, &bench->report), 104);
+    bench_free(bench);
+}
+
+static uint32_t next(uint64_t *seed)
+{
+    *seed = *seed * 6364136223846793005u + 1442695040888963407u;
+    return (uint32_t)(*seed >> 32);
+}
+
+/* Numbers that are often near an edge. */
+static uint32_t odd_number(uint64_t *seed)
+{
+    static const uint32_t edges[] = {
+        0, 1, 2, 3, 4, 8, 16, 60, 63, 64, 65, 68, 0x10000, 0x10001, 0xFFFFFFFC,
+        0xFFFFFFFF
+    };
+    uint32_t pick = next(seed);
+
+    return pick % 4 == 0 ? next(seed) : edges[pick / 4 % 16];
+}
+
+static void odd_command(struct bench *bench, uint32_t ring, uint64_t *seed)
+{
+    static const uint32_t opcodes[] = {
+        0x01, 0x02, 0x10, 0x11, 0x20, 0x22, 0x23, 0x30
+    };
+    uint32_t flags = next(seed) % 16;
+    uint32_t len = next(seed) % 4 == 0 ? next(seed) % 256 : next(seed) % 8;
+
+    if (next(seed) % 4 != 0)
+        flags &= 3;
+    uint32_t first = head(opcodes[next(seed) % 8], flags, next(seed) % 66, len);
+    push(bench, ring, first, odd_number(seed), odd_number(seed),
+         odd_number(seed));
+    for (uint32_t i = next(seed) % 3; i > 0; i--)
+        push_word(bench, ring, odd_number(seed));
+}
+
+/* Any state and any bytes: nothing is read or written out of bounds (the
+ * sanitizers see to that), and a call not served changes nothing. */
+static void odd_states(void)
+{
+    uint64_t seed = 1;
+
+    for (uint32_t round = 0; round < 300; round++) {
+        struct bench *bench = bench_new(64);
+        uint32_t code[8];
+        for (uint32_t i = 0; i < 8; i++)
+            code[i] = next(&seed);
+        pack_one(bench, code, 8);
+        for (uint32_t i = 0; i < 40; i++)
+            odd_command(bench, i % 4, &seed);
+        if (round % 3 == 0) { /* one word of the state made odd */
+            uint8_t *state = (uint8_t *)&bench->device;
+            uint32_t odd = odd_number(&seed);
+            uint32_t at = next(&seed) % (sizeof bench->device / 4);
+            memcpy(state + 4 * at, &odd, 4);
+        }
+        struct bench *before = bench_copy(bench);
+        while (bench_turn(bench) == IND_SERVED)
+            bench_keep(before, bench);
+        CHECK(bench_same(before, bench));
+        bench_free(before);
+        bench_free(bench);
+    }
+}
+
+void test_calls(void)
+{
+    fresh_devices();
+    refusals_101();
+    refusals_102();
+    refusals_103_to_105();
+    refusal_order();
+    packs();
+    largest_pack();
+    nothing_lent();
+    odd_states();
+}
