@@ -1,0 +1,43 @@
+-- A call over a device's image is the device's turn.
+-- Assumes nothing.
+use mathlib.Core.Path.{_≡_, refl}
+use Prim.Native.Nat.{ℕ}
+use lib.ListN.{length}
+use borrow.Author.Tests.{eq-eqb}
+use Rattle.command.specs.Choice.{either}
+use Rattle.device.specs.declared.state.Device.{Device}
+use Rattle.device.specs.declared.refusal.Verdict.{Verdict}
+use Rattle.device.specs.declared.refusal.Verdict.the-variants.{Sound, Refused}
+use Rattle.device.specs.declared.ready.Picked.{Picked}
+use Rattle.device.specs.declared.ready.Picked.the-variants.{Ring as RingOf, Nobody}
+use Rattle.device.specs.Ready.{pickOf}
+use Rattle.device.specs.Turn.{Call, After, unchanged, reportOf, finished, servedOf, pickedOf, judgedOf, verdictOn, turnOf}
+use Rattle.capi.specs.Image.{encode}
+use Rattle.capi.specs.Calls.{isServed, imageAfter, calledOf, turnCall}
+use Rattle.capi.specs.Follows.{followed, TurnFollows}
+use Rattle.capi.proofs.Sizes.{encode-length}
+use Rattle.capi.proofs.Inverse.{decode-encode}
+
+module _ (limit : ℕ) (d : Device) (call : Call) where
+  -- the image after a turn is that of the device after it
+  abbrev Kept : After → Type 0
+  Kept a = imageAfter (encode d) (a .turned .device) (a .turned .answer) ≡ encode (a .turned .device)
+
+  picked-kept : (p : Picked) → Kept (pickedOf limit d call p)
+  unfolding pickedOf servedOf finished reportOf unchanged imageAfter isServed either
+  picked-kept (RingOf q) = refl
+  picked-kept Nobody = refl
+
+  judged-kept : (v : Verdict) → Kept (judgedOf limit d call v)
+  unfolding judgedOf unchanged imageAfter isServed either
+  judged-kept Sound = picked-kept (pickOf d (call .ring0) (call .ring1) (call .ring2) (call .ring3))
+  judged-kept (Refused why) = refl
+
+  turn-kept : Kept (turnOf limit d call)
+  unfolding turnOf
+  turn-kept = judged-kept (verdictOn d call)
+
+pub turn-follows : TurnFollows
+unfolding turnCall calledOf followed either
+turn-follows d report call formed six =
+    rw (eq-eqb (length (encode d)) 372 (encode-length d formed), eq-eqb (length report) 24 six, decode-encode d formed, turn-kept 4096 d call)

@@ -1,0 +1,5 @@
+pub mod Stores
+pub mod WordBytes
+pub mod Sizes
+pub mod Inverse
+pub mod Follows

@@ -1,0 +1,39 @@
+-- `capi::image::device_in` meets its contract. Assumes nothing.
+use Rattle.capi.specs.Image.{decode}
+use borrow.Author.Needs.{needs}
+use Rattle.capi.proofs.image.device_in.Statement.{statement}
+use Rattle.capi.proofs.image.device_in.Tie as tie
+
+ring-at-requires : tie.Need-ring-at-requires
+ring-at-requires c κs = search needs
+
+ring-at-requires-2 : tie.Need-ring-at-requires-2
+ring-at-requires-2 c κs = search needs
+
+ring-at-requires-3 : tie.Need-ring-at-requires-3
+ring-at-requires-3 c κs = search needs
+
+ring-at-requires-4 : tie.Need-ring-at-requires-4
+ring-at-requires-4 c κs = search needs
+
+slots-of-requires : tie.Need-slots-of-requires
+slots-of-requires c κs = search needs
+
+word-in-requires : tie.Need-word-in-requires
+word-in-requires c κs = search needs
+
+returns : tie.Need-returns
+unfolding decode
+returns c = cc
+
+pub device-in-spec : {M : Type 1} → statement M
+device-in-spec =
+    tie.close
+    (tie.spec
+    ring-at-requires
+    ring-at-requires-2
+    ring-at-requires-3
+    ring-at-requires-4
+    slots-of-requires
+    word-in-requires
+    returns)

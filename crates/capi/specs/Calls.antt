@@ -1,0 +1,96 @@
+-- What the two calls leave in the bytes that they are lent, and what they answer.
+use Prim.Native.Nat.{ℕ}
+use mathlib.Core.Path.{_≡_}
+use mathlib.Core.Bool.{Bool, true, false}
+use mathlib.Core.List.{List}
+use lib.Dec.{eqb}
+use lib.ListN.{length}
+use Rattle.command.specs.Choice.{either}
+use Rattle.device.specs.declared.state.Device.{Device}
+use Rattle.device.specs.declared.fresh.Making.{Making}
+use Rattle.device.specs.declared.fresh.Making.the-variants.{Made, Refused}
+use Rattle.device.specs.declared.fresh.Fresh.{Fresh}
+use Rattle.device.specs.declared.turn.Answer.{Answer}
+use Rattle.device.specs.declared.turn.Answer.the-variants.{Refused as RefusedFor, Idle, Served}
+use Rattle.device.specs.Fresh.{freshOf}
+use Rattle.device.specs.Refusal.{refusalNumber}
+use Rattle.device.specs.Turn.{Call, After, turnOf}
+use Rattle.capi.specs.Image.{encode, decode, windowAt}
+use Rattle.capi.specs.Report.{reportBytes, answerWord}
+
+-- an image and an answer
+pub record Freshened : Type 0 where
+  pub image : List ℕ
+  pub answer : ℕ
+
+-- what a function leaves in the image and returns is this
+pub record Freshens (i : List ℕ) (r : ℕ) (f : Freshened) : Type 0 where
+  pub image : i ≡ f .image
+  pub answer : r ≡ f .answer
+
+-- 0 made, or the refusal's number
+unfoldable pub makingNumber : Making → ℕ
+makingNumber Made = 0
+makingNumber (Refused why) = refusalNumber why
+
+-- a fresh device of four windows, eight words
+abbrev pub freshFor : List ℕ → ℕ → Fresh
+freshFor windows memory = freshOf memory (windowAt windows 0) (windowAt windows 2) (windowAt windows 4) (windowAt windows 6)
+
+-- the image of a fresh device; 201 for an image that is not 372 bytes, else 203 for windows that are not 32
+unfoldable pub freshCall : List ℕ → List ℕ → ℕ → Freshened
+freshCall image windows memory =
+    either (eqb (length image) 372)
+    (either (eqb (length windows) 32)
+    (record { image = encode (freshFor windows memory .device); answer = makingNumber (freshFor windows memory .answer) })
+    (record { image = image; answer = 203 }))
+    (record { image = image; answer = 201 })
+
+-- an image, memory, pipe and report, and an answer
+pub record Called : Type 0 where
+  pub image : List ℕ
+  pub memory : List ℕ
+  pub pipe : List ℕ
+  pub report : List ℕ
+  pub answer : ℕ
+
+-- what a function leaves and returns is this
+pub record Leaves (i m p t : List ℕ) (r : ℕ) (c : Called) : Type 0 where
+  pub image : i ≡ c .image
+  pub memory : m ≡ c .memory
+  pub pipe : p ≡ c .pipe
+  pub report : t ≡ c .report
+  pub answer : r ≡ c .answer
+
+unfoldable pub isServed : Answer → Bool
+isServed (RefusedFor why) = false
+isServed Idle = false
+isServed (Served report) = true
+
+-- a served turn's device is put into the image; any other turn leaves it byte for byte
+unfoldable pub imageAfter : List ℕ → Device → Answer → List ℕ
+imageAfter image d answer = either (isServed answer) (encode d) image
+
+-- a turn's results, over the image that it started from
+unfoldable pub calledOf : List ℕ → After → Called
+calledOf image a = record {
+  image = imageAfter image (a .turned .device) (a .turned .answer);
+  memory = a .memory;
+  pipe = a .pipe;
+  report = reportBytes (a .turned .answer);
+  answer = answerWord (a .turned .answer);
+}
+
+-- nothing is changed
+unfoldable pub untouched : List ℕ → List ℕ → Call → ℕ → Called
+untouched image report call answer =
+    record { image = image; memory = call .memory; pipe = call .pipe; report = report; answer = answer }
+
+-- one turn of the image's device; 201 for an image that is not 372 bytes, else 202 for a report that is not 24
+unfoldable pub turnCall : List ℕ → List ℕ → Call → Called
+turnCall image report call =
+    either (eqb (length image) 372)
+    (either (eqb (length report) 24)
+    (calledOf image (turnOf 4096 (decode image) call))
+    (untouched image report call 202))
+    (untouched image report call 201)

@@ -1,0 +1,82 @@
+-- The image of a device: 93 little-endian words. Each ring has seven, then come the 64 slots and the marker.
+use Prim.Native.Nat.{ℕ, zero, suc, _+_, _*_}
+use mathlib.Core.List.{List, [], _∷_, _++_}
+use lib.Dec.{eqb}
+use Rattle.words.specs.Bytes.{byteOf}
+use Rattle.memory.specs.Place.{wordAt}
+use Rattle.command.specs.declared.frame.Frame.{Frame}
+use Rattle.command.specs.declared.frame.Frame.the-variants.{Unset, Held}
+use Rattle.command.specs.Choice.{either}
+use Rattle.command.specs.Frame.{strideOf}
+use Rattle.device.specs.declared.state.Window.{Window}
+use Rattle.device.specs.declared.state.Ring.{Ring}
+use Rattle.device.specs.declared.state.Device.{Device}
+use Rattle.device.specs.State.{ringOf}
+
+-- the bytes of words, the lowest byte of each first
+unfoldable pub bytesOf : List ℕ → List ℕ
+bytesOf [] = []
+bytesOf (w ∷ ws) = byteOf 0 w ∷ byteOf 1 w ∷ byteOf 2 w ∷ byteOf 3 w ∷ bytesOf ws
+
+-- word k of some bytes
+abbrev pub wordIn : List ℕ → ℕ → ℕ
+wordIn bytes k = wordAt bytes (4 * k)
+
+-- the n words from word k on
+unfoldable pub wordsIn : List ℕ → ℕ → ℕ → List ℕ
+wordsIn bytes k zero = []
+wordsIn bytes k (suc n) = wordsIn bytes k n ++ (wordIn bytes (k + n) ∷ [])
+
+-- a frame's own words: 1 if it is held, its base, and its format; each 0 of no frame
+unfoldable pub heldOf : Frame → ℕ
+heldOf Unset = 0
+heldOf (Held base stride format) = 1
+
+unfoldable pub baseOf : Frame → ℕ
+baseOf Unset = 0
+baseOf (Held base stride format) = base
+
+unfoldable pub formatOf : Frame → ℕ
+formatOf Unset = 0
+formatOf (Held base stride format) = format
+
+-- a ring's seven words
+unfoldable pub ringWords : Ring → List ℕ
+ringWords r =
+    r .window .start ∷ r .window .length ∷ r .cursor ∷ heldOf (r .frame) ∷ baseOf (r .frame) ∷ strideOf (r .frame) ∷ formatOf (r .frame) ∷ []
+
+-- the words of the four rings
+unfoldable pub ringsWords : Device → List ℕ
+ringsWords d = ringWords (ringOf d 0) ++ ringWords (ringOf d 1) ++ ringWords (ringOf d 2) ++ ringWords (ringOf d 3)
+
+-- a device's 93 words
+unfoldable pub wordsOf : Device → List ℕ
+wordsOf d = ringsWords d ++ d .slots ++ (d .marker ∷ [])
+
+-- a device's image
+unfoldable pub encode : Device → List ℕ
+encode d = bytesOf (wordsOf d)
+
+-- the frame of four words: any first word but 0 holds one
+unfoldable pub frameOf : ℕ → ℕ → ℕ → ℕ → Frame
+frameOf held base stride format = either (eqb held 0) Unset (Held base stride format)
+
+-- the window of the two words from word k on
+unfoldable pub windowAt : List ℕ → ℕ → Window
+windowAt bytes k = record { start = wordIn bytes k; length = wordIn bytes (k + 1) }
+
+-- the ring of the seven words from word k on
+unfoldable pub ringAt : List ℕ → ℕ → Ring
+ringAt image k = record {
+  window = windowAt image k;
+  cursor = wordIn image (k + 2);
+  frame = frameOf (wordIn image (k + 3)) (wordIn image (k + 4)) (wordIn image (k + 5)) (wordIn image (k + 6));
+}
+
+-- the device of an image
+unfoldable pub decode : List ℕ → Device
+decode image = record {
+  rings = ringAt image 0 ∷ ringAt image 7 ∷ ringAt image 14 ∷ ringAt image 21 ∷ [];
+  slots = wordsIn image 28 64;
+  marker = wordIn image 92;
+}

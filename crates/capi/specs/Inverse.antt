@@ -1,0 +1,37 @@
+-- An image says all of a device, and a device all of an image in normal form.
+use Prim.Native.Nat.{ℕ, _+_, _*_, _^_, _<_}
+use mathlib.Core.Path.{_≡_}
+use mathlib.Core.List.{List}
+use lib.ListN.{length, getD}
+use Rattle.device.specs.declared.state.Device.{Device}
+use Rattle.capi.specs.Image.{wordIn, wordsOf, encode, decode}
+
+-- what every device has by its type
+pub record Formed (d : Device) : Type 0 where
+  pub four : length (d .rings) ≡ 4
+  pub sixty-four : length (d .slots) ≡ 64
+  pub fit : (k : ℕ) → getD (wordsOf d) k 0 < 2 ^ 32
+
+-- a frame's four words are in normal form: 1 and any three words, or four zeros
+pub data NormalFrame : ℕ → ℕ → ℕ → ℕ → Type 0 where
+  held : {base stride format : ℕ} → NormalFrame 1 base stride format
+  unset : NormalFrame 0 0 0 0
+
+-- an image of 372 bytes, with each ring's frame in normal form
+pub record Normal (image : List ℕ) : Type 0 where
+  pub long : length image ≡ 372
+  pub bytes : (i : ℕ) → getD image i 0 < 2 ^ 8
+  pub frames : (q : ℕ) → q < 4
+      → NormalFrame (wordIn image (7 * q + 3)) (wordIn image (7 * q + 4)) (wordIn image (7 * q + 5)) (wordIn image (7 * q + 6))
+
+-- every image has 372 bytes
+abbrev pub EncodeLength : Type 0
+EncodeLength = (d : Device) → Formed d → length (encode d) ≡ 372
+
+-- a device put into an image and read back is the same
+abbrev pub DecodeEncode : Type 0
+DecodeEncode = (d : Device) → Formed d → decode (encode d) ≡ d
+
+-- an image in normal form, read and written again, is the same byte for byte
+abbrev pub EncodeDecode : Type 0
+EncodeDecode = (image : List ℕ) → Normal image → encode (decode image) ≡ image

@@ -1,0 +1,158 @@
+// The image of a device.
+ghost use mathlib.Core.Path.{_≡_};
+ghost use Prim.Native.Nat.{_+_, _*_, _≤_};
+ghost use lib.ListN.{length};
+ghost use lib.Seq.{sets};
+ghost use Rattle.capi.specs.Image.{bytesOf, heldOf, baseOf, formatOf, ringWords, ringsWords, frameOf, ringAt, wordsIn, encode, decode};
+use crate::lent::put_words;
+use crate::lent::window_at;
+use crate::lent::word_in;
+use command::frame::Frame;
+use command::frame::stride_of;
+use device::state::Device;
+use device::state::Ring;
+
+pub const IMAGE_BYTES: usize = 372;
+
+fn held_of(frame: Frame) -> u32
+    ensures { λ r. ⌜ r ≡ heldOf frame ⌝ }
+{
+    match frame {
+        Frame::Unset => 0,
+        Frame::Held {
+            base: _,
+            stride: _,
+            format: _,
+        } => 1,
+    }
+}
+
+fn base_of(frame: Frame) -> u32
+    ensures { λ r. ⌜ r ≡ baseOf frame ⌝ }
+{
+    match frame {
+        Frame::Unset => 0,
+        Frame::Held {
+            base,
+            stride: _,
+            format: _,
+        } => base,
+    }
+}
+
+fn format_of(frame: Frame) -> u32
+    ensures { λ r. ⌜ r ≡ formatOf frame ⌝ }
+{
+    match frame {
+        Frame::Unset => 0,
+        Frame::Held {
+            base: _,
+            stride: _,
+            format,
+        } => format,
+    }
+}
+
+fn ring_words(ring: Ring) -> [u32; 7]
+    ensures { λ r. ⌜ r ≡ ringWords ring ⌝ }
+{
+    let window = ring.window;
+    let frame = ring.frame;
+    [
+        window.start,
+        window.length,
+        ring.cursor,
+        held_of(frame),
+        base_of(frame),
+        stride_of(frame),
+        format_of(frame),
+    ]
+}
+
+fn put_ring(image: &mut [u8], k: usize, ring: Ring)
+    requires { ⌜ 4 * k + 28 ≤ length (now image) ⌝ }
+    ensures { λ _. ⌜ now (image .exit) ≡ sets (now (image .entry)) (4 * k) (bytesOf (ringWords ring)) ⌝ }
+{
+    let words = ring_words(ring);
+    put_words(image, k, &words);
+}
+
+fn put_rings(image: &mut [u8], d: Device)
+    requires { ⌜ 112 ≤ length (now image) ⌝ }
+    ensures { λ _. ⌜ now (image .exit) ≡ sets (now (image .entry)) 0 (bytesOf (ringsWords d)) ⌝ }
+{
+    put_ring(image, 0, d.ring(0));
+    put_ring(image, 7, d.ring(1));
+    put_ring(image, 14, d.ring(2));
+    put_ring(image, 21, d.ring(3));
+}
+
+pub fn put_device(image: &mut [u8], d: Device)
+    requires { ⌜ length (now image) ≡ 372 ⌝ }
+    ensures { λ _. ⌜ now (image .exit) ≡ encode d ⌝ }
+{
+    put_rings(image, d);
+    let slots = d.slots;
+    put_words(image, 28, &slots);
+    let marker = [d.marker];
+    put_words(image, 92, &marker);
+}
+
+fn frame_of(held: u32, base: u32, stride: u32, format: u32) -> Frame
+    ensures { λ r. ⌜ r ≡ frameOf held base stride format ⌝ }
+{
+    if held == 0 {
+        return Frame::Unset;
+    }
+    Frame::Held {
+        base,
+        stride,
+        format,
+    }
+}
+
+fn ring_at(image: &[u8], k: usize) -> Ring
+    requires { ⌜ 4 * k + 28 ≤ length (now image) ⌝ }
+    ensures { λ r. ⌜ r ≡ ringAt (now (image .entry)) k ⌝ }
+{
+    let frame = frame_of(
+        word_in(image, k + 3),
+        word_in(image, k + 4),
+        word_in(image, k + 5),
+        word_in(image, k + 6),
+    );
+    Ring {
+        window: window_at(image, k),
+        cursor: word_in(image, k + 2),
+        frame,
+    }
+}
+
+fn slots_of(image: &[u8]) -> [u32; 64]
+    requires { ⌜ length (now image) ≡ 372 ⌝ }
+    ensures { λ r. ⌜ r ≡ wordsIn (now (image .entry)) 28 64 ⌝ }
+{
+    let mut slots = [0; 64];
+    for i in 0..64 {
+        slots[i] = word_in(image, 28 + i);
+    }
+    slots
+}
+
+pub fn device_in(image: &[u8]) -> Device
+    requires { ⌜ length (now image) ≡ 372 ⌝ }
+    ensures { λ r. ⌜ r ≡ decode (now (image .entry)) ⌝ }
+{
+    let rings = [
+        ring_at(image, 0),
+        ring_at(image, 7),
+        ring_at(image, 14),
+        ring_at(image, 21),
+    ];
+    let slots = slots_of(image);
+    Device {
+        rings,
+        slots,
+        marker: word_in(image, 92),
+    }
+}

@@ -1,0 +1,46 @@
+// The device for programs in C: its state is an image of bytes that the caller keeps.
+ghost use Rattle.device.specs.Turn.{callOf};
+ghost use Rattle.capi.specs.Calls.{freshCall, Freshens, turnCall, Leaves};
+
+pub mod calls;
+pub mod image;
+pub mod lent;
+pub mod report;
+
+use crate::calls::fresh_call;
+use crate::calls::turn_call;
+
+// `memory` is the memory's length.
+#[no_mangle]
+pub extern "C" fn fv_fresh(device: &mut [u8], windows: &[u8], memory: u64) -> u32
+    ensures { λ r. ⌜ Freshens (now (device .exit)) r (freshCall (now (device .entry)) (now (windows .entry)) memory) ⌝ }
+{
+    fresh_call(device, windows, memory as usize)
+}
+
+#[no_mangle]
+pub extern "C" fn fv_turn<'a>(
+    device: &mut [u8],
+    memory: &mut [u8],
+    ring0: &'a [u8],
+    ring1: &'a [u8],
+    ring2: &'a [u8],
+    ring3: &'a [u8],
+    pack: &[u8],
+    pipe: &mut [u8],
+    report: &mut [u8],
+) -> u32
+    ensures { λ r. ⌜ Leaves (now (device .exit)) (now (memory .exit)) (now (pipe .exit)) (now (report .exit)) r (turnCall (now (device .entry)) (now (report .entry)) (callOf (now (memory .entry)) (now (ring0 .entry)) (now (ring1 .entry)) (now (ring2 .entry)) (now (ring3 .entry)) (now (pack .entry)) (now (pipe .entry)))) ⌝ }
+{
+    turn_call(
+        device,
+        memory,
+        ring0,
+        ring1,
+        ring2,
+        ring3,
+        pack,
+        pipe,
+        report,
+    )
+}
