@@ -7,8 +7,6 @@
 #include "parts.h"
 
 enum {
-    INPUT_MOST = 61440,
-    MEMORY_WORDS_MOST = 4096,
     SOUND = -1, /* not a number that `refused` prints */
     TOO_LONG = 0,
     SECTION_WINDOWS = 1,
@@ -98,7 +96,7 @@ static int read_memory(struct reader *reader, struct job *job)
 {
     uint32_t count;
 
-    if (!take_number(reader, &count) || count > MEMORY_WORDS_MOST)
+    if (!take_number(reader, &count) || count > IND_JOB_WORDS_MOST)
         return SECTION_MEMORY;
     job->memory_len = (size_t)WORD * count;
     job->memory = take(reader, job->memory_len);
@@ -129,7 +127,7 @@ static void refused(FILE *out, uint32_t number)
 /* Turns until idle, or until a call is refused. */
 static void run_job(const struct job *job, FILE *out)
 {
-    uint8_t memory[WORD * MEMORY_WORDS_MOST], pipe[IND_PIPE_LEAST] = {0};
+    uint8_t memory[WORD * IND_JOB_WORDS_MOST], pipe[IND_PIPE_LEAST] = {0};
     struct ind_device device;
     struct ind_report report;
     uint32_t turns = 0;
@@ -153,18 +151,23 @@ static void run_job(const struct job *job, FILE *out)
         refused(out, status);
 }
 
-int ind_replay(FILE *in, FILE *out)
+int ind_replay_bytes(const uint8_t *input, size_t length, FILE *out)
 {
-    uint8_t input[INPUT_MOST + 1]; /* one more, to see that there is more */
-    struct reader reader = {input, fread(input, 1, sizeof input, in), 0};
+    struct reader reader = {input, length, 0};
     struct job job;
+    int fault = length > IND_INPUT_MOST ? TOO_LONG : read_job(&reader, &job);
 
-    if (ferror(in))
-        return 1;
-    int fault = reader.length > INPUT_MOST ? TOO_LONG : read_job(&reader, &job);
     if (fault == SOUND)
         run_job(&job, out);
     else
         refused(out, (uint32_t)fault);
     return fflush(out) != 0 || ferror(out) != 0;
+}
+
+int ind_replay(FILE *in, FILE *out)
+{
+    uint8_t input[IND_INPUT_MOST + 1]; /* one more, to see that there is more */
+    size_t length = fread(input, 1, sizeof input, in);
+
+    return ferror(in) ? 1 : ind_replay_bytes(input, length, out);
 }

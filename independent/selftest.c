@@ -187,6 +187,7 @@ int main(void)
     test_calls();
     test_kernels();
     test_replay();
+    test_image();
     puts("selftest: every check holds");
     return 0;
 }

@@ -1,0 +1,38 @@
+// A recorded making of a fresh device.
+use crate::piece::is_same;
+use crate::piece::lay;
+use crate::piece::piece_after;
+use crate::piece::piece_at;
+use crate::tally::Seen;
+use capi::calls::fresh_call;
+use memory::peek::peek_word;
+use memory::place::put_word;
+
+fn memory_length(bytes: &[u8]) -> usize {
+    let high = peek_word(bytes, 4) as usize;
+    4294967296 * high + peek_word(bytes, 0) as usize
+}
+
+pub fn compare(body: &[u8]) -> Seen {
+    let windows = piece_at(body, 4);
+    let length = piece_after(body, windows);
+    let before = piece_after(body, length);
+    let after = piece_after(body, before);
+    let recorded = piece_after(body, after);
+    let mut image = [0u8; 372];
+    let mut pairs = [0u8; 32];
+    let mut bytes = [0u8; 8];
+    let mut answer = [0u8; 4];
+    lay(&mut image, body, before);
+    lay(&mut pairs, body, windows);
+    lay(&mut bytes, body, length);
+    put_word(
+        &mut answer,
+        0,
+        fresh_call(&mut image, &pairs, memory_length(&bytes)),
+    );
+    if !is_same(&image, body, after) {
+        return Seen::Fresh(false);
+    }
+    Seen::Fresh(is_same(&answer, body, recorded))
+}

@@ -1,0 +1,73 @@
+// How many calls of each kind were made again, and how many differ.
+use libc::STDOUT_FILENO;
+use words::arithmetic::add;
+
+// What became of one recorded call. The status is that of a report: 0 served, 1 idle, else refused.
+pub enum Seen {
+    Fresh(bool),
+    Turn(u32, bool),
+    Damaged,
+}
+
+pub struct Tally {
+    fresh: u32,
+    served: u32,
+    idle: u32,
+    refused: u32,
+    differ: u32,
+}
+
+impl Tally {
+    pub fn none() -> Self {
+        Tally {
+            fresh: 0,
+            served: 0,
+            idle: 0,
+            refused: 0,
+            differ: 0,
+        }
+    }
+
+    fn held(mut self, is_same: bool) -> Self {
+        if !is_same {
+            self.differ = add(self.differ, 1);
+        }
+        self
+    }
+
+    fn turned(mut self, status: u32) -> Self {
+        if status == 0 {
+            self.served = add(self.served, 1);
+        } else if status == 1 {
+            self.idle = add(self.idle, 1);
+        } else {
+            self.refused = add(self.refused, 1);
+        }
+        self
+    }
+
+    pub fn with(mut self, seen: Seen) -> Self {
+        match seen {
+            Seen::Fresh(is_same) => {
+                self.fresh = add(self.fresh, 1);
+                self.held(is_same)
+            }
+            Seen::Turn(status, is_same) => self.turned(status).held(is_same),
+            Seen::Damaged => self.held(false),
+        }
+    }
+
+    pub fn print(self) {
+        print_count(b"fresh ", self.fresh, b", ");
+        print_count(b"served ", self.served, b", ");
+        print_count(b"idle ", self.idle, b", ");
+        print_count(b"refused ", self.refused, b"; ");
+        print_count(b"", self.differ, b" differ\n");
+    }
+}
+
+fn print_count(before: &[u8], count: u32, after: &[u8]) {
+    io::write_all(STDOUT_FILENO, before);
+    io::print_decimal(STDOUT_FILENO, count as u64);
+    io::write_all(STDOUT_FILENO, after);
+}

@@ -1,0 +1,145 @@
+#include "cases/call.h"
+
+#include <stdio.h>
+#include <stdlib.h>
+#include <string.h>
+
+#include "image.h"
+#include "kernels/generate.h"
+
+/* A little more than a device takes, so that what is too long can be lent. */
+static const size_t most[PIECES] = {
+    [PIECE_DEVICE] = 400, [PIECE_MEMORY] = 1048640,
+    [PIECE_RING] = 65600, [PIECE_RING + 1] = 65600,
+    [PIECE_RING + 2] = 65600, [PIECE_RING + 3] = 65600,
+    [PIECE_PACK] = 66000, [PIECE_PIPE] = 2048, [PIECE_REPORT] = 40,
+    [PIECE_WINDOWS] = 40, [PIECE_SPAN] = 8, [PIECE_ANSWER] = 4
+};
+
+const char *const piece_names[PIECES] = {
+    "device", "memory", "ring 0", "ring 1", "ring 2", "ring 3", "pack", "pipe",
+    "report", "windows", "memory length", "answer"
+};
+
+static void *must(void *room)
+{
+    if (room == NULL) {
+        fprintf(stderr, "no memory for a call\n");
+        exit(2);
+    }
+    return room;
+}
+
+/* The bytes behind a piece are known, to see that a call leaves them. */
+void piece_end(struct piece *piece, size_t length)
+{
+    piece->length = length < piece->most ? length : piece->most;
+    memset(piece->bytes + piece->length, 0xA5, GUARD);
+}
+
+struct call *call_new(void)
+{
+    struct call *call = must(calloc(1, sizeof *call));
+
+    for (int i = 0; i < PIECES; i++) {
+        call->pieces[i].most = most[i];
+        call->pieces[i].bytes = must(malloc(most[i] + GUARD));
+        piece_end(&call->pieces[i], 0);
+    }
+    return call;
+}
+
+void call_free(struct call *call)
+{
+    for (int i = 0; i < PIECES; i++)
+        free(call->pieces[i].bytes);
+    free(call);
+}
+
+void piece_zeros(struct piece *piece, size_t length)
+{
+    piece_end(piece, length);
+    memset(piece->bytes, 0, piece->length);
+}
+
+void piece_add(struct piece *piece, const uint8_t *bytes, size_t count)
+{
+    size_t room = piece->most - piece->length;
+
+    if (count > room)
+        count = room;
+    if (count != 0)
+        memcpy(piece->bytes + piece->length, bytes, count);
+    piece_end(piece, piece->length + count);
+}
+
+void piece_add_word(struct piece *piece, uint32_t word)
+{
+    uint8_t bytes[4];
+
+    put_word(bytes, word);
+    piece_add(piece, bytes, sizeof bytes);
+}
+
+void call_start(struct call *call, enum call_kind kind)
+{
+    call->kind = kind;
+    for (int i = 0; i < PIECES; i++)
+        piece_end(&call->pieces[i], 0);
+    piece_zeros(&call->pieces[PIECE_DEVICE], IND_IMAGE_BYTES);
+    piece_zeros(&call->pieces[PIECE_ANSWER], 4);
+    if (kind == CALL_FRESH) {
+        piece_zeros(&call->pieces[PIECE_WINDOWS], IND_WINDOWS_BYTES);
+        piece_zeros(&call->pieces[PIECE_SPAN], 8);
+        return;
+    }
+    piece_zeros(&call->pieces[PIECE_REPORT], IND_REPORT_BYTES);
+    memset(call->pieces[PIECE_REPORT].bytes, 0xEE, IND_REPORT_BYTES);
+}
+
+void call_copy(struct call *to, const struct call *from)
+{
+    to->kind = from->kind;
+    for (int i = 0; i < PIECES; i++) {
+        to->pieces[i].length = from->pieces[i].length;
+        memcpy(to->pieces[i].bytes, from->pieces[i].bytes,
+               from->pieces[i].length + GUARD);
+    }
+}
+
+uint64_t call_span(const struct call *call)
+{
+    const uint8_t *bytes = call->pieces[PIECE_SPAN].bytes;
+
+    return get_word(bytes) | (uint64_t)get_word(bytes + 4) << 32;
+}
+
+uint32_t call_answer(const struct call *call)
+{
+    return get_word(call->pieces[PIECE_ANSWER].bytes);
+}
+
+#define LENT(piece) call->pieces[piece].bytes, call->pieces[piece].length
+
+void call_make(struct call *call, fresh_call *fresh, turn_call *turn)
+{
+    uint32_t answer = call->kind == CALL_FRESH
+        ? fresh(LENT(PIECE_DEVICE), LENT(PIECE_WINDOWS), call_span(call))
+        : turn(LENT(PIECE_DEVICE), LENT(PIECE_MEMORY), LENT(PIECE_RING),
+               LENT(PIECE_RING + 1), LENT(PIECE_RING + 2),
+               LENT(PIECE_RING + 3), LENT(PIECE_PACK), LENT(PIECE_PIPE),
+               LENT(PIECE_REPORT));
+
+    put_word(call->pieces[PIECE_ANSWER].bytes, answer);
+}
+
+int call_difference(const struct call *a, const struct call *b)
+{
+    for (int i = 0; i < PIECES; i++) {
+        const struct piece *x = &a->pieces[i], *y = &b->pieces[i];
+        if (x->length != y->length
+            || memcmp(x->bytes, y->bytes, x->length + GUARD) != 0)
+            return i;
+    }
+    return -1;
+}

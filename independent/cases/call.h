@@ -1,0 +1,67 @@
+/* One whole call: every piece that it is handed, as bytes, and its answer. */
+#ifndef CALL_H
+#define CALL_H
+
+#include <stddef.h>
+#include <stdint.h>
+
+enum call_kind { CALL_FRESH = 0, CALL_TURN = 1 };
+
+/* A turn takes those from DEVICE to REPORT; fresh takes DEVICE, WINDOWS and
+ * SPAN, the memory's length in 8 bytes. Both leave an ANSWER of 4 bytes. */
+enum call_piece {
+    PIECE_DEVICE, PIECE_MEMORY,
+    PIECE_RING, /* and three more */
+    PIECE_PACK = PIECE_RING + 4, PIECE_PIPE, PIECE_REPORT,
+    PIECE_WINDOWS, PIECE_SPAN, PIECE_ANSWER,
+    PIECES
+};
+
+enum { GUARD = 16 }; /* bytes watched behind a piece */
+
+struct piece {
+    uint8_t *bytes; /* GUARD bytes stand behind the last */
+    size_t length, most;
+};
+
+struct call {
+    enum call_kind kind;
+    struct piece pieces[PIECES];
+};
+
+typedef uint32_t fresh_call(uint8_t *, size_t, const uint8_t *, size_t,
+                            uint64_t);
+typedef uint32_t turn_call(uint8_t *, size_t, uint8_t *, size_t,
+                           const uint8_t *, size_t, const uint8_t *, size_t,
+                           const uint8_t *, size_t, const uint8_t *, size_t,
+                           const uint8_t *, size_t, uint8_t *, size_t,
+                           uint8_t *, size_t);
+
+/* A call whose pieces are all empty. Ends the program without memory. */
+struct call *call_new(void);
+void call_free(struct call *call);
+
+/* Gives a piece a length and zeros. Longer than it may be: as long as that. */
+void piece_zeros(struct piece *piece, size_t length);
+/* Moves its end; its bytes up to there stand as they are. */
+void piece_end(struct piece *piece, size_t length);
+/* Adds bytes at its end, as far as there is room. */
+void piece_add(struct piece *piece, const uint8_t *bytes, size_t count);
+void piece_add_word(struct piece *piece, uint32_t word);
+
+/* Starts a call: device, report and answer have their lengths, a turn's pack
+ * and pipe hold nothing, fresh's windows and span are zeros. */
+void call_start(struct call *call, enum call_kind kind);
+void call_copy(struct call *to, const struct call *from);
+
+/* Makes the call: the pieces are then as the call left them. */
+void call_make(struct call *call, fresh_call *fresh, turn_call *turn);
+
+/* The first piece in which two calls are not the same, or -1. */
+int call_difference(const struct call *a, const struct call *b);
+extern const char *const piece_names[PIECES];
+
+uint64_t call_span(const struct call *call);
+uint32_t call_answer(const struct call *call);
+
+#endif

@@ -1,0 +1,318 @@
+#include "cases/commands.h"
+
+static uint32_t lesser(uint32_t a, uint32_t b)
+{
+    return a < b ? a : b;
+}
+
+/* ---- arguments ---- */
+
+/* Where so many bytes may start in a window: inside, or at one of its edges. */
+static uint32_t address_for(struct scene *s, uint32_t length, uint64_t bytes)
+{
+    uint32_t last = length - (uint32_t)bytes; /* wraps where they don't fit */
+
+    if (odd(s)) {
+        switch (below(s->c, 10)) {
+        case 0:
+        case 1:
+            return last;
+        case 2:
+        case 3:
+            return last + 4;
+        case 4:
+            return last + 1 + below(s->c, 3);
+        case 5:
+            return length;
+        case 6:
+            return length + 4;
+        case 7:
+            return 0 - 4 * below(s->c, 5);
+        case 8:
+            return below(s->c, length + 1);
+        default:
+            return edge_word(s->c);
+        }
+    }
+    return 4 * below(s->c, (bytes > length ? length : last) / 4 + 1);
+}
+
+static uint32_t len_for(struct scene *s, uint32_t length)
+{
+    uint32_t words = lesser(length / 4, 255);
+
+    if (s->len != ANY)
+        return (uint32_t)s->len;
+    if (odd(s)) {
+        switch (below(s->c, 6)) {
+        case 0:
+            return 0;
+        case 1:
+            return 255;
+        case 2:
+            return words;
+        case 3:
+            return lesser(words + 1, 255);
+        default:
+            return below(s->c, 20);
+        }
+    }
+    return lesser(words, 1 + below(s->c, 10));
+}
+
+/* A width and a height that fit, or miss by one. */
+static struct ind_size size_for(struct scene *s, const struct ind_ring *ring)
+{
+    static const uint32_t high[4] = { 0, 0, 1, 65535 };
+    uint32_t stride = ring->frame.held != 0 ? ring->frame.stride : 16;
+    struct ind_size size = { 1 + below(s->c, lesser(stride / 4, 6)), 1 };
+
+    if (odd(s))
+        size.width = below(s->c, 2) == 0 ? high[below(s->c, 4)]
+                                         : stride / 4 + below(s->c, 2);
+    uint32_t used = lesser(4 * size.width, ring->window_length);
+    uint32_t rows = (ring->window_length - used) / stride + 1;
+    size.height = 1 + below(s->c, lesser(rows, 6));
+    if (odd(s))
+        size.height = below(s->c, 2) == 0 ? high[below(s->c, 4)]
+                                          : rows + below(s->c, 2);
+    size.height = lesser(size.height, 65535);
+    if (odd(s) && mille(s->c, 150)) { /* too wide, but empty */
+        size.width = stride / 4 + 1;
+        size.height = 0;
+    }
+    return size;
+}
+
+static uint32_t side_for(struct scene *s, uint32_t most)
+{
+    static const uint32_t sides[8] = { 0, 1, 64, 65, 63, 2, 66, 0xFFFFFFFF };
+
+    if (most == IND_SIDE_MOST && mille(s->c, 300))
+        return most;
+    if (odd(s)) {
+        uint32_t side = sides[below(s->c, 8)];
+        if (side == 0 || side > IND_SIDE_MOST || side <= most)
+            return side;
+    }
+    return 1 + below(s->c, most);
+}
+
+/* ---- the work of each opcode ---- */
+
+static void ask_transfer(struct scene *s, const struct ind_ring *ring,
+                         struct ind_command *command)
+{
+    uint32_t length = ring->window_length;
+    uint64_t bytes;
+
+    command->len = len_for(s, length);
+    bytes = (uint64_t)4 * command->len;
+    command->arg0 = address_for(s, length, bytes);
+    if (command->opcode == COPY_BUFFER) {
+        command->arg1 = address_for(s, length, bytes);
+        if (mille(s->c, 300)) /* the two sides overlap */
+            command->arg1 = command->arg0 + 4 * (uint32_t)between(s->c, -3, 3);
+    } else {
+        command->arg1 = mille(s->c, 100) ? any_word(s->c) : 0;
+    }
+    command->arg2 = mille(s->c, 100) ? any_word(s->c) : 0;
+}
+
+static void ask_rectangle(struct scene *s, const struct ind_ring *ring,
+                          struct ind_command *command)
+{
+    uint32_t length = ring->window_length;
+    uint32_t stride = ring->frame.held != 0 ? ring->frame.stride : 16;
+    struct ind_size size = size_for(s, ring);
+    uint32_t packed = size.width | size.height << 16;
+    uint64_t bytes = size.height == 0 ? 0
+        : (uint64_t)(size.height - 1) * stride + 4 * size.width;
+
+    command->arg0 = address_for(s, length, bytes);
+    if (command->opcode == FILL_RECT) {
+        command->arg1 = packed;
+        command->arg2 = edge_word(s->c);
+        return;
+    }
+    command->arg1 = address_for(s, length, bytes);
+    if (mille(s->c, 300)) {
+        int32_t words = between(s->c, -3, 3);
+        int32_t rows = between(s->c, -1, 1);
+        command->arg1 = command->arg0 + 4 * (uint32_t)words
+            + stride * (uint32_t)rows;
+    }
+    command->arg2 = packed;
+}
+
+/* The kernel made for this ring, with many threads only if it is short. */
+static void ask_dispatch(struct scene *s, uint32_t ring,
+                         struct ind_command *command)
+{
+    uint32_t own = s->own == 0 ? 0 : ring % s->own;
+    uint32_t most = s->own == 0 ? 1 : s->threads[own];
+
+    command->arg0 = side_for(s, most);
+    command->arg1 = side_for(s, command->arg0 > 4 && most > 4
+                             && !mille(s->c, 60) ? 4 : most);
+    command->arg2 = s->kernels - s->probes - s->own + own;
+    if (odd(s)) {
+        uint32_t beyond = s->kernels + below(s->c, 2);
+        command->arg2 = mille(s->c, 300) ? below(s->c, s->kernels + 1)
+                      : mille(s->c, 700) ? beyond : edge_word(s->c);
+    }
+}
+
+static void ask_frame(struct scene *s, const struct ind_ring *ring,
+                      struct ind_command *command)
+{
+    static const uint32_t strides[8] = {
+        0, 2, 6, 4, 65532, 65536, 65540, 0x80000004
+    };
+    struct ind_frame frame = draw_frame(s, ring->window_length);
+
+    command->arg0 = frame.base;
+    command->arg1 = frame.stride;
+    command->arg2 = 0;
+    if (odd(s))
+        command->arg0 = address_for(s, ring->window_length, 4);
+    if (odd(s))
+        command->arg1 = strides[below(s->c, 8)];
+    if (odd(s))
+        command->arg2 = mille(s->c, 500) ? 1 : edge_word(s->c);
+}
+
+static void ask_work(struct scene *s, uint32_t number,
+                     struct ind_command *command)
+{
+    const struct ind_ring *ring = &s->device.rings[number];
+
+    switch (command->opcode) {
+    case WRITE_MEM:
+    case READ_MEM:
+    case COPY_BUFFER:
+        ask_transfer(s, ring, command);
+        break;
+    case FILL_RECT:
+    case BLIT:
+        ask_rectangle(s, ring, command);
+        break;
+    case DISPATCH_1D:
+        ask_dispatch(s, number, command);
+        break;
+    case SET_FB:
+        ask_frame(s, ring, command);
+        break;
+    default: /* BARRIER, whose arguments may be anything */
+        command->arg0 = mille(s->c, 200) ? any_word(s->c) : 0;
+        break;
+    }
+    if (command->len == 0 && mille(s->c, 100)) /* a len that means nothing */
+        command->len = command->opcode == WRITE_MEM
+            || command->opcode == READ_MEM || command->opcode == COPY_BUFFER
+            ? 0 : below(s->c, 256);
+}
+
+/* ---- flags, slot and target ---- */
+
+/* At most what the slot holds. */
+static uint32_t met_target(struct scene *s, uint32_t slot)
+{
+    uint32_t holds = s->device.slots[slot];
+
+    if (odd(s))
+        return mille(s->c, 300) ? 0 : holds;
+    return holds - below(s->c, lesser(holds, 3) + 1);
+}
+
+int make_wait(struct scene *s, struct ind_command *command)
+{
+    command->flags |= FLAG_WAIT;
+    for (uint32_t i = 0; i < IND_SLOTS; i++) {
+        uint32_t slot = (command->rdst + i) % IND_SLOTS;
+        uint32_t holds = s->device.slots[slot];
+        if (holds == UINT32_MAX)
+            continue;
+        command->rdst = slot;
+        command->target = odd(s) && mille(s->c, 300)
+            ? UINT32_MAX : holds + 1 + below(s->c, 1 + (holds < 100));
+        return 1;
+    }
+    return 0;
+}
+
+void spoil_header(struct scene *s, struct ind_command *command)
+{
+    static const uint8_t strangers[12] = {
+        0x00, 0x03, 0x0F, 0x12, 0x13, 0x21, 0x24, 0x31, 0x40, 0x42, 0x81, 0xFF
+    };
+    static const uint8_t slots[4] = { 64, 65, 128, 255 };
+    uint32_t faults = 1 + below(s->c, 15); /* one bit for each of 1 to 4 */
+
+    if (mille(s->c, 500))
+        faults = 1u << below(s->c, 4);
+    if (faults & 1)
+        command->opcode = strangers[below(s->c, 12)];
+    if (faults & 2)
+        command->flags |= 0x10u << below(s->c, 4);
+    if (faults & 4)
+        command->flags ^= FLAG_PAYLOAD;
+    if (faults & 8) {
+        command->rdst = slots[below(s->c, 4)];
+        command->flags |= FLAG_EMIT << below(s->c, 2);
+        command->target = edge_word(s->c);
+    }
+}
+
+static void draw_flags(struct scene *s, struct ind_command *command)
+{
+    command->flags = command->opcode == WRITE_MEM ? FLAG_PAYLOAD : 0;
+    if (mille(s->c, 300))
+        command->flags |= FLAG_IRQ;
+    if (mille(s->c, s->full == ANY ? 500 : 900))
+        command->flags |= FLAG_EMIT;
+    if (mille(s->c, 300))
+        command->flags |= FLAG_WAIT;
+    command->rdst = below(s->c, mille(s->c, 800) ? s->slots : IND_SLOTS);
+    if (odd(s))
+        command->rdst = IND_SLOTS - 1;
+    if (command->flags & FLAG_WAIT)
+        command->target = met_target(s, command->rdst);
+    else if ((command->flags & FLAG_EMIT) == 0 && mille(s->c, 100))
+        command->rdst = below(s->c, 256); /* no slot is asked for */
+}
+
+struct ind_command draw_command(struct scene *s, uint32_t ring, int opcode)
+{
+    struct ind_command command = {
+        .opcode = (uint32_t)opcode, .flags = 0, .rdst = 0, .len = 0, .arg0 = 0,
+        .arg1 = 0, .arg2 = 0, .target = 0, .size = 0, .payload = NULL
+    };
+
+    draw_flags(s, &command);
+    ask_work(s, ring, &command);
+    if (odd(s) && mille(s->c, 400))
+        spoil_header(s, &command);
+    return command;
+}
+
+uint32_t add_command(struct scene *s, uint32_t ring,
+                     const struct ind_command *command)
+{
+    struct piece *piece = &s->call->pieces[PIECE_RING + ring];
+    size_t before = piece->length;
+    uint8_t payload[4 * 255];
+
+    piece_add_word(piece, command->opcode | command->flags << 8
+                   | command->rdst << 16 | command->len << 24);
+    piece_add_word(piece, command->arg0);
+    piece_add_word(piece, command->arg1);
+    piece_add_word(piece, command->arg2);
+    if (command->flags & FLAG_WAIT)
+        piece_add_word(piece, command->target);
+    if (command->flags & FLAG_PAYLOAD) {
+        edge_bytes(s->c, payload, (size_t)4 * command->len);
+        piece_add(piece, payload, (size_t)4 * command->len);
+    }
+    return (uint32_t)(piece->length - before);
+}

@@ -1,0 +1,13 @@
+/* Inputs of the replay job from a seed: case n of a seed is the same on every
+ * machine, and can be drawn alone. */
+#ifndef JOBS_H
+#define JOBS_H
+
+#include "cases/call.h"
+
+enum { JOB_MOST = 61440 + 64 }; /* bytes, some of them too many */
+
+/* The input stands until the next is drawn. */
+const struct piece *draw_job(uint64_t seed, uint64_t number);
+
+#endif

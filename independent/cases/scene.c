@@ -1,0 +1,173 @@
+#include "cases/scene.h"
+
+#include <string.h>
+
+#include "image.h"
+#include "parts.h"
+
+void scene_start(struct scene *s, struct call *call, struct chance *c,
+                 uint32_t odd_mille)
+{
+    memset(s, 0, sizeof *s);
+    s->c = c;
+    s->call = call;
+    s->odd = odd_mille;
+    s->opcode = s->style = s->len = s->full = ANY;
+    s->slots = 8;
+    call_start(call, CALL_TURN);
+}
+
+int odd(struct scene *s)
+{
+    return mille(s->c, s->odd);
+}
+
+static uint32_t any_memory_len(struct chance *c)
+{
+    switch (below(c, 20)) {
+    case 0: /* no multiple of 4 is asked of the memory itself */
+        return below(c, 400);
+    case 1:
+        return 4 * below(c, 17);
+    case 2:
+        return 512 + 4 * below(c, 385);
+    case 3:
+        return 1024 + 4 * below(c, 257);
+    default:
+        return 96 + 4 * below(c, 41);
+    }
+}
+
+/* Bytes all over, or at the front of zeros. */
+void draw_memory(struct scene *s, uint32_t length)
+{
+    struct piece *memory = &s->call->pieces[PIECE_MEMORY];
+    uint32_t filled = mille(s->c, 850) ? 48 : 400;
+
+    s->memory_len = length;
+    piece_zeros(memory, length);
+    edge_bytes(s->c, memory->bytes, filled < length ? filled : length);
+}
+
+/* A window inside the memory. The leading ring's is rarely small. */
+void draw_window(struct scene *s, uint32_t number)
+{
+    struct ind_ring *ring = &s->device.rings[number];
+    uint32_t words = s->memory_len / 4, first = 0, count = words;
+    uint32_t way = below(s->c, 16);
+
+    if (way == 0) { /* empty, at the memory's end too */
+        first = below(s->c, words + 1);
+        count = 0;
+    } else if (way == 1 || (way < 6 && number != s->lead)) {
+        first = below(s->c, words + 1);
+        count = below(s->c, words - first + 1);
+    } else if (way < 10) { /* all but a little at either end */
+        first = below(s->c, (words < 8 ? words : 8) + 1);
+        count = words - first;
+        if (way < 8)
+            count -= below(s->c, (count < 8 ? count : 8) + 1);
+    }
+    ring->window_start = 4 * first;
+    ring->window_length = 4 * count;
+}
+
+struct ind_frame draw_frame(struct scene *s, uint32_t window_length)
+{
+    struct ind_frame frame = {0, 0, 0, 0};
+
+    if (window_length == 0)
+        return frame;
+    frame.held = 1;
+    frame.base = 4 * below(s->c, window_length / 4);
+    frame.stride = 4 + 4 * below(s->c, 12);
+    if (odd(s)) {
+        static const uint32_t strides[4] = { 4, 8, 65532, 65536 };
+        frame.stride = strides[below(s->c, 4)];
+        frame.base = mille(s->c, 500) ? 0 : window_length - 4;
+    }
+    return frame;
+}
+
+/* Without a frame a rectangle is nothing but a fault. */
+static int wants_frame(const struct scene *s, uint32_t ring)
+{
+    return ring == s->lead && (s->opcode == FILL_RECT || s->opcode == BLIT);
+}
+
+static void draw_slots(struct scene *s)
+{
+    int full = s->full == ANY ? 20 : s->full;
+    uint32_t reach = mille(s->c, 700) ? s->slots : IND_SLOTS;
+
+    for (uint32_t n = below(s->c, 7); n > 0; n--) {
+        uint32_t slot = below(s->c, reach);
+        s->device.slots[slot] = mille(s->c, 800) ? below(s->c, 6)
+                                                 : edge_word(s->c);
+    }
+    if (s->full == ANY && !mille(s->c, 100))
+        return;
+    for (uint32_t slot = 0; slot < reach; slot++) {
+        if (mille(s->c, (uint32_t)full))
+            s->device.slots[slot] = UINT32_MAX - below(s->c, 2);
+    }
+}
+
+/* Which ring will be served: the first ready one from the marker on. */
+static void draw_heads(struct scene *s)
+{
+    static const enum head usual[10] = {
+        HEAD_READY, HEAD_READY, HEAD_READY, HEAD_READY, HEAD_READY,
+        HEAD_WAITING, HEAD_WAITING, HEAD_CUT, HEAD_NONE, HEAD_NONE
+    };
+
+    s->device.marker = mille(s->c, 600) ? 0 : below(s->c, IND_RINGS);
+    s->lead = s->device.marker;
+    for (uint32_t i = 0; i < IND_RINGS; i++)
+        s->heads[i] = usual[below(s->c, 10)];
+    for (uint32_t i = IND_RINGS; i > 0; i--) {
+        uint32_t ring = (s->device.marker + i - 1) % IND_RINGS;
+        if (s->heads[ring] == HEAD_READY)
+            s->lead = ring;
+    }
+}
+
+static int any_opcode(struct scene *s)
+{
+    static const uint8_t opcodes[7] = {
+        WRITE_MEM, READ_MEM, FILL_RECT, BLIT, BARRIER, COPY_BUFFER, SET_FB
+    };
+
+    return mille(s->c, 470) ? DISPATCH_1D : opcodes[below(s->c, 7)];
+}
+
+void draw_state(struct scene *s, uint32_t memory_len)
+{
+    draw_heads(s);
+    if (s->opcode == ANY)
+        s->opcode = any_opcode(s);
+    draw_memory(s, memory_len != 0 ? memory_len : any_memory_len(s->c));
+    draw_slots(s);
+    for (uint32_t i = 0; i < IND_RINGS; i++) {
+        struct ind_ring *ring = &s->device.rings[i];
+        draw_window(s, i);
+        if (mille(s->c, wants_frame(s, i) ? 850 : 400))
+            ring->frame = draw_frame(s, ring->window_length);
+    }
+}
+
+void draw_pipe(struct scene *s)
+{
+    struct piece *pipe = &s->call->pieces[PIECE_PIPE];
+    uint32_t length = IND_PIPE_LEAST;
+
+    if (mille(s->c, 100))
+        length += below(s->c, 1029);
+    piece_zeros(pipe, length);
+    edge_bytes(s->c, pipe->bytes, mille(s->c, 15) ? length : below(s->c, 16));
+}
+
+void scene_done(struct scene *s)
+{
+    ind_image_encode(&s->device, s->call->pieces[PIECE_DEVICE].bytes);
+}

@@ -1,0 +1,172 @@
+#include "cases/sights.h"
+
+#include <string.h>
+
+#include "image.h"
+
+const char *const sight_names[SIGHTS] = {
+    [SEEN_FENCE] = "a fence reported",
+    [SEEN_IRQ] = "IRQ reported",
+    [SEEN_NO_IRQ] = "IRQ asked for and not reported",
+    [SEEN_WAIT] = "a wait that was met",
+    [SEEN_WAIT_EQUAL] = "a target that is just what the slot holds",
+    [SEEN_WAIT_AND_EMIT] = "wait and emit together",
+    [SEEN_FAULTY_WAIT] = "a faulty header with a wait",
+    [SEEN_LAST_SLOT] = "a slot raised to 4,294,967,295",
+    [SEEN_WORDS] = "words read",
+    [SEEN_MEMORY] = "memory changed",
+    [SEEN_KEPT_STORES] = "memory changed by a kernel that stopped",
+    [SEEN_THREADS] = "a dispatch of several threads",
+    [SEEN_STEP_4096] = "a thread ended by step 4,096",
+    [SEEN_LATER_RING] = "a ring served after one that was not ready",
+    [SEEN_RING_END] = "a command that ends with its ring",
+    [SEEN_REWRITTEN] = "a held flag or an unset frame's words written anew",
+    [SEEN_LEN_0] = "a transfer of len 0, done",
+    [SEEN_LEN_0_OUTSIDE] = "a transfer of len 0, outcome 8",
+    [SEEN_LEN_255] = "a transfer of len 255, done",
+    [SEEN_WINDOW_END] = "a transfer up to the window's end, done",
+    [SEEN_PAST_END] = "a transfer one word past the window's end",
+    [SEEN_OVERLAP] = "a copy or blit onto itself, moved a little",
+    [SEEN_EMPTY] = "an empty rectangle, done",
+    [SEEN_EMPTY_FAULTY] = "an empty rectangle, outcome 6 or 7",
+    [SEEN_FULL_WIDTH] = "a rectangle as wide as the stride, done",
+    [SEEN_SIDE_64] = "64 groups or threads, run",
+    [SEEN_SIDE_65] = "65 groups or threads",
+    [SEEN_LAST_KERNEL] = "the last of several kernels, run",
+    [SEEN_NEXT_KERNEL] = "the kernel after the last"
+};
+
+static int memory_changed(const struct served *v)
+{
+    const struct piece *memory = &v->before->pieces[PIECE_MEMORY];
+
+    return memcmp(memory->bytes, v->after->pieces[PIECE_MEMORY].bytes,
+                  memory->length) != 0;
+}
+
+/* The image would have been written anew though nothing else had changed. */
+static int rewritten(const struct served *v)
+{
+    uint8_t again[IND_IMAGE_BYTES];
+
+    ind_image_encode(&v->device, again);
+    return memcmp(v->before->pieces[PIECE_DEVICE].bytes, again, sizeof again)
+        != 0;
+}
+
+static void see_header(const struct served *v, uint64_t *counts)
+{
+    const struct ind_command *command = &v->command;
+    const struct ind_report *report = &v->report;
+    int fault = ind_header_fault(command) != IND_DONE;
+    int waits = (command->flags & FLAG_WAIT) != 0;
+    size_t end = (size_t)v->device.rings[report->ring].cursor + command->size;
+
+    counts[SEEN_FENCE] += report->fence != 0;
+    counts[SEEN_LAST_SLOT] += report->fence == UINT32_MAX;
+    counts[SEEN_IRQ] += report->irq != 0;
+    counts[SEEN_NO_IRQ] += (command->flags & FLAG_IRQ) && report->irq == 0;
+    counts[SEEN_WAIT] += waits && !fault;
+    counts[SEEN_WAIT_EQUAL] += waits && !fault && command->target != 0
+        && command->target == v->device.slots[command->rdst];
+    counts[SEEN_WAIT_AND_EMIT] += waits && report->fence != 0;
+    counts[SEEN_FAULTY_WAIT] += waits && fault;
+    counts[SEEN_LATER_RING] += report->ring != v->device.marker;
+    counts[SEEN_RING_END] +=
+        end == v->before->pieces[PIECE_RING + report->ring].length;
+}
+
+static void see_transfer(const struct served *v, uint64_t *counts)
+{
+    const struct ind_command *command = &v->command;
+    uint32_t outcome = v->report.outcome;
+    uint64_t end = (uint64_t)command->arg0 + 4 * command->len;
+    uint64_t length = v->device.rings[v->report.ring].window_length;
+    int done = outcome == IND_DONE;
+
+    counts[SEEN_LEN_0] += done && command->len == 0;
+    counts[SEEN_LEN_0_OUTSIDE] += outcome == IND_OUTSIDE_WINDOW
+        && command->len == 0;
+    counts[SEEN_LEN_255] += done && command->len == 255;
+    counts[SEEN_WINDOW_END] += done && end == length && command->len != 0;
+    counts[SEEN_PAST_END] += outcome == IND_OUTSIDE_WINDOW
+        && end == length + 4 && command->len != 0;
+    counts[SEEN_WORDS] += v->report.words_read != 0;
+}
+
+/* Closer than the words that are moved, but not the same place. */
+static void see_overlap(const struct served *v, uint64_t *counts)
+{
+    const struct ind_command *command = &v->command;
+    uint32_t width = command->opcode == BLIT
+        ? ind_rectangle_size(command).width : command->len;
+    uint32_t apart = command->arg0 < command->arg1
+        ? command->arg1 - command->arg0 : command->arg0 - command->arg1;
+
+    counts[SEEN_OVERLAP] += v->report.outcome == IND_DONE && apart != 0
+        && apart < 4 * width;
+}
+
+static void see_rectangle(const struct served *v, uint64_t *counts)
+{
+    struct ind_size size = ind_rectangle_size(&v->command);
+    uint32_t stride = v->device.rings[v->report.ring].frame.stride;
+    uint32_t outcome = v->report.outcome;
+    int empty = size.width == 0 || size.height == 0;
+
+    counts[SEEN_EMPTY] += empty && outcome == IND_DONE;
+    counts[SEEN_EMPTY_FAULTY] += empty
+        && (outcome == IND_NOT_FOURS || outcome == IND_NO_FRAME_ROOM);
+    counts[SEEN_FULL_WIDTH] += !empty && outcome == IND_DONE
+        && 4 * size.width == stride;
+}
+
+static void see_dispatch(const struct served *v, uint64_t *counts)
+{
+    const struct ind_command *command = &v->command;
+    uint32_t kernels = ind_get(v->before->pieces[PIECE_PACK].bytes, WORD);
+    int ran = v->report.outcome == IND_DONE
+        || v->report.outcome >= IND_NOT_LISTED;
+
+    counts[SEEN_THREADS] += ran && command->arg0 * command->arg1 > 1;
+    counts[SEEN_KEPT_STORES] += v->report.outcome >= IND_NOT_LISTED
+        && memory_changed(v);
+    counts[SEEN_SIDE_64] += ran && (command->arg0 == IND_SIDE_MOST
+                                    || command->arg1 == IND_SIDE_MOST);
+    counts[SEEN_SIDE_65] += command->arg0 == IND_SIDE_MOST + 1
+        || command->arg1 == IND_SIDE_MOST + 1;
+    counts[SEEN_LAST_KERNEL] += ran && kernels > 1
+        && command->arg2 == kernels - 1;
+    counts[SEEN_NEXT_KERNEL] += command->arg2 == kernels;
+}
+
+void see_served(const struct served *v, uint64_t counts[SIGHTS])
+{
+    see_header(v, counts);
+    counts[SEEN_MEMORY] += (uint64_t)memory_changed(v);
+    counts[SEEN_REWRITTEN] += (uint64_t)rewritten(v);
+    if (ind_header_fault(&v->command) != IND_DONE)
+        return;
+    switch (v->command.opcode) {
+    case COPY_BUFFER:
+        see_overlap(v, counts);
+        see_transfer(v, counts);
+        break;
+    case WRITE_MEM:
+    case READ_MEM:
+        see_transfer(v, counts);
+        break;
+    case BLIT:
+        see_overlap(v, counts);
+        see_rectangle(v, counts);
+        break;
+    case FILL_RECT:
+        see_rectangle(v, counts);
+        break;
+    case DISPATCH_1D:
+        see_dispatch(v, counts);
+        break;
+    default: /* BARRIER and SET_FB show nothing of their own */
+        break;
+    }
+}

@@ -1,0 +1,205 @@
+#include "cases/tally.h"
+
+#include <inttypes.h>
+#include <stdlib.h>
+#include <string.h>
+
+#include "cases/sights.h"
+#include "image.h"
+#include "kernels/table.h"
+
+enum { OUTCOMES = 15, REFUSALS = 5, OPCODES = 8 };
+
+static const struct {
+    uint32_t opcode;
+    const char *name;
+} opcodes[OPCODES] = {
+    { WRITE_MEM, "WRITE_MEM" }, { READ_MEM, "READ_MEM" },
+    { FILL_RECT, "FILL_RECT" }, { BLIT, "BLIT" },
+    { DISPATCH_1D, "DISPATCH_1D" }, { BARRIER, "BARRIER" },
+    { COPY_BUFFER, "COPY_BUFFER" }, { SET_FB, "SET_FB" }
+};
+
+static struct {
+    uint64_t calls, fresh[2], idle, refused[REFUSALS], wrong[3];
+    uint64_t outcome[OUTCOMES], opcode_done[OPCODES], row[ROWS];
+    uint64_t sight[SIGHTS], steps, most_steps;
+} count;
+
+/* ---- a dispatch, run again to look at its steps ---- */
+
+struct trace {
+    uint8_t seen[ROWS];
+    uint64_t steps;
+    int last_step_ends;
+};
+
+static uint32_t trace_thread(struct trace *trace, struct ind_thread *thread,
+                             const struct ind_kernel *kernel,
+                             const struct ind_window *window)
+{
+    uint32_t answer = IND_GOES_ON;
+
+    while (answer == IND_GOES_ON) {
+        uint32_t place = thread->place, steps = thread->steps;
+        answer = ind_step(thread, kernel, window, IND_STEP_LIMIT);
+        if (thread->steps != steps) /* a stop is no step */
+            trace->seen[row_of(ind_get(kernel->code + place, WORD))] = 1;
+    }
+    trace->steps += thread->steps;
+    trace->last_step_ends |= answer == IND_ENDED
+        && thread->steps == IND_STEP_LIMIT;
+    return answer;
+}
+
+static void trace_dispatch(struct trace *trace, const struct call *before,
+                           const struct ind_command *command,
+                           const struct ind_ring *ring)
+{
+    const struct piece *memory = &before->pieces[PIECE_MEMORY];
+    const struct piece *pack = &before->pieces[PIECE_PACK];
+    uint8_t *copy = malloc(memory->length + 1);
+    struct ind_window window = {
+        copy, ring->window_start, ring->window_length
+    };
+    struct ind_kernel kernel;
+    uint32_t answer = IND_ENDED;
+
+    if (copy == NULL
+        || !ind_kernel_extent(pack->bytes, pack->length, command->arg2,
+                              &kernel))
+        abort();
+    memcpy(copy, memory->bytes, memory->length);
+    uint32_t all = command->arg0 * command->arg1;
+    for (uint32_t n = 0; n < all && answer == IND_ENDED; n++) {
+        struct ind_thread thread;
+        ind_thread_start(&thread, n / command->arg1, n % command->arg1,
+                         command->arg1, command->arg0);
+        answer = trace_thread(trace, &thread, &kernel, &window);
+    }
+    free(copy);
+}
+
+static void count_trace(const struct trace *trace)
+{
+    for (int i = 0; i < ROWS; i++)
+        count.row[i] += trace->seen[i];
+    count.steps += trace->steps;
+    if (trace->steps > count.most_steps)
+        count.most_steps = trace->steps;
+    count.sight[SEEN_STEP_4096] += (uint64_t)trace->last_step_ends;
+}
+
+/* ---- calls ---- */
+
+static int ran(const struct served *v)
+{
+    return v->command.opcode == DISPATCH_1D
+        && (v->report.outcome == IND_DONE
+            || v->report.outcome >= IND_NOT_LISTED);
+}
+
+static void tally_served(const struct call *before, const struct call *after)
+{
+    struct served v = { .before = before, .after = after };
+    struct trace trace = {{0}, 0, 0};
+
+    ind_report_decode(after->pieces[PIECE_REPORT].bytes, &v.report);
+    ind_image_decode(before->pieces[PIECE_DEVICE].bytes, &v.device);
+    const struct piece *ring = &before->pieces[PIECE_RING + v.report.ring];
+    const struct ind_ring *own = &v.device.rings[v.report.ring];
+    if (!ind_command_whole(ring->bytes, ring->length, own->cursor, &v.command))
+        abort();
+    count.outcome[v.report.outcome]++;
+    see_served(&v, count.sight);
+    for (int i = 0; i < OPCODES; i++)
+        count.opcode_done[i] += v.report.outcome == IND_DONE
+            && opcodes[i].opcode == v.command.opcode;
+    if (ran(&v)) {
+        trace_dispatch(&trace, before, &v.command, own);
+        count_trace(&trace);
+    }
+}
+
+void tally_call(const struct call *before, const struct call *after)
+{
+    uint32_t answer = call_answer(after);
+
+    count.calls++;
+    if (answer >= IND_WRONG_IMAGE) {
+        count.wrong[answer - IND_WRONG_IMAGE]++;
+    } else if (after->kind == CALL_FRESH) {
+        count.fresh[answer != 0]++;
+    } else if (answer == IND_IDLE) {
+        count.idle++;
+    } else if (answer >= IND_REFUSED_MEMORY) {
+        count.refused[answer - IND_REFUSED_MEMORY]++;
+    } else {
+        tally_served(before, after);
+    }
+}
+
+/* ---- the table ---- */
+
+/* With no file, only counts the lines that stand at 0. */
+static int line(FILE *out, const char *name, uint64_t value)
+{
+    if (out != NULL)
+        fprintf(out, "  %10" PRIu64 " %s\n", value, name);
+    return value == 0;
+}
+
+static int lines(FILE *out, const char *format, uint32_t first,
+                 const uint64_t *values, uint32_t number)
+{
+    char name[32];
+    int missing = 0;
+
+    for (uint32_t i = 0; i < number; i++) {
+        snprintf(name, sizeof name, format, first + i);
+        missing += line(out, name, values[i]);
+    }
+    return missing;
+}
+
+static void title(FILE *out, const char *text)
+{
+    if (out != NULL)
+        fprintf(out, "%s\n", text);
+}
+
+static int table_of(FILE *out)
+{
+    int missing = 0;
+
+    title(out, "calls by what they answer");
+    missing += line(out, "fresh 0", count.fresh[0]);
+    missing += line(out, "fresh 101", count.fresh[1]);
+    missing += line(out, "idle", count.idle);
+    missing += lines(out, "refused %u", IND_REFUSED_MEMORY, count.refused,
+                     REFUSALS);
+    lines(out, "wrong length %u", IND_WRONG_IMAGE, count.wrong, 3);
+    missing += lines(out, "outcome %u", 0, count.outcome, OUTCOMES);
+    title(out, "calls with outcome 0, by opcode");
+    for (int i = 0; i < OPCODES; i++)
+        missing += line(out, opcodes[i].name, count.opcode_done[i]);
+    title(out, "calls that show");
+    for (int i = 0; i < SIGHTS; i++)
+        missing += line(out, sight_names[i], count.sight[i]);
+    title(out, "calls in which an instruction is a step");
+    for (int i = 0; i < ROWS; i++)
+        missing += line(out, table[i].name, count.row[i]);
+    return missing;
+}
+
+void tally_print(FILE *out)
+{
+    fprintf(out, "calls %" PRIu64 ", kernel steps %" PRIu64 ", at most %" PRIu64
+            " in a call\n", count.calls, count.steps, count.most_steps);
+    table_of(out);
+}
+
+int tally_missing(void)
+{
+    return table_of(NULL);
+}

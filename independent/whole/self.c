@@ -1,0 +1,148 @@
+/* The independent device in the archive's place, to try the comparison itself.
+ * With MUTANT it makes one error, which the comparison has to tell. */
+#include <string.h>
+
+#include "image.h"
+#include "parts.h"
+#include "whole/whole.h"
+
+#ifndef MUTANT
+#define MUTANT 0
+#endif
+
+enum { REPORT_RING = 4, REPORT_OUTCOME = 8, REPORT_FENCE = 12,
+       REPORT_WORDS = 16, REPORT_IRQ = 20, HELD = 12, MARKER = 368 };
+
+/* A turn's pieces, after it and its image before it. */
+struct turned {
+    uint8_t before[IND_IMAGE_BYTES], *device, *memory, *pipe, *report;
+    size_t memory_len, pipe_len;
+    uint32_t answer;
+};
+
+static void add(uint8_t *word, uint32_t more)
+{
+    ind_put(word, WORD, ind_get(word, WORD) + more);
+}
+
+/* Errors of a served turn. */
+static void err_served(struct turned *t)
+{
+    uint32_t outcome = ind_get(t->report + REPORT_OUTCOME, WORD);
+    uint32_t ring = ind_get(t->report + REPORT_RING, WORD);
+    size_t next = (size_t)IND_IMAGE_RING * ((ring + 1) % IND_RINGS);
+
+    switch (MUTANT) {
+    case 1:
+        if (ind_get(t->report + REPORT_FENCE, WORD) != 0)
+            add(t->report + REPORT_FENCE, 1);
+        break;
+    case 2:
+        if (t->memory_len > 0)
+            t->memory[t->memory_len - 1] ^= 1;
+        break;
+    case 3:
+        t->pipe[t->pipe_len - 1] ^= 1;
+        break;
+    case 4:
+        t->report[REPORT_IRQ] ^= 1;
+        break;
+    case 5:
+        if (ind_get(t->report + REPORT_WORDS, WORD) != 0)
+            add(t->report + REPORT_WORDS, UINT32_MAX);
+        break;
+    case 6: /* the frame of another ring, not written anew */
+        memcpy(t->device + next + HELD, t->before + next + HELD, 16);
+        break;
+    case 7: /* a faulty header does not pass the turn on */
+        if (outcome >= IND_NO_OPCODE && outcome <= IND_NO_SLOT)
+            memcpy(t->device + MARKER, t->before + MARKER, WORD);
+        break;
+    case 8: /* the byte behind the memory */
+        t->memory[t->memory_len] ^= 1;
+        break;
+    default:
+        break;
+    }
+}
+
+/* Errors of a turn that is idle or refused. */
+static void err_unserved(struct turned *t)
+{
+    int idle = t->answer == IND_IDLE;
+
+    switch (MUTANT) {
+    case 9:
+        if (idle)
+            t->device[HELD + 1] ^= 1;
+        break;
+    case 10:
+        if (idle)
+            t->answer = IND_SERVED;
+        break;
+    case 11: /* a refusal tells of a ring */
+        if (!idle)
+            t->report[REPORT_RING] = 1;
+        break;
+    case 12: /* 103 and 104 in the wrong order */
+        if (t->answer == IND_REFUSED_RING && t->pipe_len < IND_PIPE_LEAST) {
+            t->answer = IND_REFUSED_PIPE;
+            ind_put(t->report, WORD, t->answer);
+        }
+        break;
+    case 13:
+        if (!idle && t->pipe_len > 0)
+            t->pipe[0] ^= 1;
+        break;
+    case 14:
+        if (!idle && t->memory_len > 0)
+            t->memory[0] ^= 1;
+        break;
+    default:
+        break;
+    }
+}
+
+uint32_t fv_fresh(uint8_t *device, size_t device_len, const uint8_t *windows,
+                  size_t windows_len, uint64_t memory_len)
+{
+    uint8_t before[IND_IMAGE_BYTES] = {0};
+
+    if (device_len == sizeof before)
+        memcpy(before, device, sizeof before);
+    if (MUTANT == 15) /* only the length's low word */
+        memory_len &= UINT32_MAX;
+    if (MUTANT == 16 && windows_len != IND_WINDOWS_BYTES)
+        return IND_WRONG_WINDOWS; /* asked first */
+    uint32_t answer = ind_fv_fresh(device, device_len, windows, windows_len,
+                                   memory_len);
+    if (MUTANT == 17 && answer == IND_REFUSED_MEMORY) /* image not written */
+        memcpy(device, before, sizeof before);
+    return answer;
+}
+
+uint32_t fv_turn(uint8_t *device, size_t device_len, uint8_t *memory,
+                 size_t memory_len, const uint8_t *ring0, size_t ring0_len,
+                 const uint8_t *ring1, size_t ring1_len, const uint8_t *ring2,
+                 size_t ring2_len, const uint8_t *ring3, size_t ring3_len,
+                 const uint8_t *pack, size_t pack_len, uint8_t *pipe,
+                 size_t pipe_len, uint8_t *report, size_t report_len)
+{
+    struct turned t = {
+        {0}, device, memory, pipe, report, memory_len, pipe_len, 0
+    };
+
+    if (MUTANT == 18 && report_len != IND_REPORT_BYTES)
+        return IND_WRONG_REPORT; /* asked first */
+    if (device_len == sizeof t.before)
+        memcpy(t.before, device, sizeof t.before);
+    t.answer = ind_fv_turn(device, device_len, memory, memory_len, ring0,
+                           ring0_len, ring1, ring1_len, ring2, ring2_len,
+                           ring3, ring3_len, pack, pack_len, pipe, pipe_len,
+                           report, report_len);
+    if (t.answer == IND_SERVED)
+        err_served(&t);
+    else if (t.answer < IND_WRONG_IMAGE)
+        err_unserved(&t);
+    return t.answer;
+}

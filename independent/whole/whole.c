@@ -1,0 +1,56 @@
+/* whole COUNT SEED: random whole calls on the device of an archive (fv_fresh
+ * and fv_turn) and on the independent one; all they leave is compared. */
+#include <inttypes.h>
+#include <stdio.h>
+#include <stdlib.h>
+
+#include "cases/cases.h"
+#include "cases/tally.h"
+#include "image.h"
+#include "whole/whole.h"
+
+static void tell(uint64_t seed, uint64_t number, int piece,
+                 const struct call *got, const struct call *wanted)
+{
+    const struct piece *a = &got->pieces[piece], *b = &wanted->pieces[piece];
+    size_t at = 0;
+
+    while (at < b->length + GUARD - 1 && a->bytes[at] == b->bytes[at])
+        at++;
+    printf("seed %" PRIu64 " case %" PRIu64 ": %s differs at byte %zu of %zu: "
+           "%02X, not %02X; answers %" PRIu32 " and %" PRIu32 "\n", seed,
+           number, piece_names[piece], at, b->length, a->bytes[at],
+           b->bytes[at], call_answer(got), call_answer(wanted));
+}
+
+int main(int argc, char **argv)
+{
+    struct call *before = call_new(), *got = call_new(), *wanted = call_new();
+    uint64_t different = 0;
+
+    if (argc != 3) {
+        fprintf(stderr, "usage: whole COUNT SEED\n");
+        return 2;
+    }
+    uint64_t count = strtoull(argv[1], NULL, 10);
+    uint64_t seed = strtoull(argv[2], NULL, 10);
+    for (uint64_t n = 0; n < count; n++) {
+        draw_case(before, seed, n);
+        draw_lengths(before, seed, n);
+        call_copy(got, before);
+        call_copy(wanted, before);
+        call_make(got, fv_fresh, fv_turn);
+        call_make(wanted, ind_fv_fresh, ind_fv_turn);
+        tally_call(before, wanted);
+        int piece = call_difference(got, wanted);
+        different += piece >= 0;
+        if (piece >= 0)
+            tell(seed, n, piece, got, wanted);
+    }
+    tally_print(stdout);
+    printf("%" PRIu64 " calls, %" PRIu64 " differ\n", count, different);
+    call_free(before);
+    call_free(got);
+    call_free(wanted);
+    return different != 0;
+}
