@@ -1,0 +1,29 @@
+/* The works that are measured. */
+#ifndef WORKS_H
+#define WORKS_H
+
+#include "scene.h"
+
+struct work {
+    const char *name;
+    const char *unit;                           /* what a number is given for */
+    uint32_t units;                             /* in an amount of 1 */
+    uint32_t amount;                            /* for a time */
+    uint32_t few;                               /* for a count of instructions, which is slow */
+    void (*queue)(struct scene *, uint32_t amount);
+};
+
+/* turns.c */
+void queue_idle(struct scene *scene, uint32_t turns);
+void queue_waiting(struct scene *scene, uint32_t turns);
+void queue_barriers(struct scene *scene, uint32_t commands);
+/* transfers.c */
+void queue_copies(struct scene *scene, uint32_t commands);
+void queue_blit(struct scene *scene, uint32_t rows);
+void queue_fill(struct scene *scene, uint32_t rows);
+/* kernels.c */
+void queue_alu(struct scene *scene, uint32_t threads);
+void queue_memory(struct scene *scene, uint32_t threads);
+void queue_vector(struct scene *scene, uint32_t threads);
+
+#endif
