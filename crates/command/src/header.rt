@@ -70,10 +70,10 @@ pub fn command_at(ring: &[u8], cursor: usize) -> Command
     }
 }
 
-pub fn is_whole(ring: &[u8], cursor: usize) -> bool
-    requires { ⌜ cursor ≤ 65536 ⌝ }
+// Whether all of the command at the cursor, which the caller has read, is there.
+pub fn is_whole(ring: &[u8], cursor: usize, command: Command) -> bool
+    requires { ⌜ (cursor ≤ 65536) × (command ≡ commandAt (now ring) cursor) ⌝ }
     ensures { λ r. ⌜ r ≡ isWhole (now (ring .entry)) cursor ⌝ }
 {
-    let command = command_at(ring, cursor);
     cursor + command.size <= ring.len()
 }

@@ -1,7 +1,8 @@
 -- The search for the first ready ring, one ring at a time.
 -- Assumes nothing.
-use mathlib.Core.Path.{_≡_, refl, sym}
+use mathlib.Core.Path.{_≡_, refl, sym, _∙_}
 use mathlib.Core.Bool.{Bool, true, false}
+use mathlib.Core.List.{List}
 use mathlib.Core.Logic.{⊎-elim}
 use Prim.Native.Nat.{ℕ, zero, suc, _+_, _-_, _<_}
 use native.Mathlib.Nat.{lt-irrefl}
@@ -10,8 +11,17 @@ use native.Mathlib.Omega.{arith}
 use lib.Dec.{ltb}
 use borrow.Author.Tests.{ltb-true, ltb-false}
 use Rattle.command.specs.Choice.{either}
+use Rattle.device.specs.declared.state.Device.{Device}
+use Rattle.device.specs.declared.state.Ring.{Ring as RingState}
 use Rattle.device.specs.declared.ready.Picked.the-variants.{Ring, Nobody}
-use Rattle.device.specs.Ready.{nextRing, seek}
+use Rattle.device.specs.State.{ringOf, slotOf}
+use Rattle.device.specs.Ready.{readyWhere, readyAt, nextRing, seek}
+
+-- what was found of a ring and its bytes is what the device's readiness says
+pub told : (d : Device) (q : ℕ) (b : List ℕ) {ring : RingState} {bytes : List ℕ} {r answer : Bool} → ring ≡ ringOf d q → bytes ≡ b
+    → r ≡ readyWhere ring (d .slots) bytes → r ≡ answer → readyAt d q b ≡ answer
+unfolding readyAt readyWhere slotOf
+told d q b same-ring same-bytes said is = rw (← same-ring, ← same-bytes) (sym said ∙ is)
 
 -- the ring after a ring of four is one of four
 pub next-below : (q : ℕ) → q < 4 → nextRing q < 4

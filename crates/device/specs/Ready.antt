@@ -3,6 +3,7 @@ use Prim.Native.Nat.{ℕ, zero, suc, _+_, _≤_, _<_}
 use mathlib.Core.Bool.{Bool, not, _&&_, _||_}
 use mathlib.Core.List.{List}
 use lib.Dec.{leb, ltb, eqb}
+use lib.ListN.{getD}
 use Rattle.command.specs.declared.header.Command.{Command}
 use Rattle.command.specs.Choice.{either}
 use Rattle.command.specs.Flags.{waitBit}
@@ -10,6 +11,7 @@ use Rattle.command.specs.Faults.{headerFault}
 use Rattle.command.specs.Header.{commandAt, isWhole}
 use Rattle.command.specs.Outcome.{isDone}
 use Rattle.device.specs.declared.state.Device.{Device}
+use Rattle.device.specs.declared.state.Ring.{Ring as RingState}
 use Rattle.device.specs.declared.ready.Picked.{Picked}
 use Rattle.device.specs.declared.ready.Picked.the-variants.{Ring, Nobody}
 use Rattle.device.specs.State.{ringOf, slotOf}
@@ -21,6 +23,12 @@ isMet slot target = leb target slot
 -- a whole command is ready if it has a header fault, or no wait bit, or its slot's number meets the target
 unfoldable pub readyWith : Command → ℕ → Bool
 readyWith c slot = not (isDone (headerFault c)) || not (waitBit (c .flags)) || isMet slot (c .target)
+
+-- a ring is ready among these slots: its head command is whole and ready
+unfoldable pub readyWhere : RingState → List ℕ → List ℕ → Bool
+readyWhere ring slots bytes =
+    let c = commandAt bytes (ring .cursor) in
+    isWhole bytes (ring .cursor) && readyWith c (getD slots (c .rdst) 0)
 
 -- ring q, whose bytes are `ring`, is ready: its head command is whole and ready
 unfoldable pub readyAt : Device → ℕ → List ℕ → Bool

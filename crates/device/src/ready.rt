@@ -2,9 +2,10 @@
 ghost use mathlib.Core.Path.{_≡_};
 ghost use mathlib.Core.List.{List};
 ghost use Prim.Native.Nat.{_≤_, _<_};
-ghost use Rattle.device.specs.State.{ringOf, slotOf};
-ghost use Rattle.device.specs.Ready.{isMet, readyWith, readyAt, nextRing, bytesOfRing, pickOf, Steady};
+ghost use lib.ListN.{getD};
+ghost use Rattle.device.specs.Ready.{isMet, readyWith, readyWhere, nextRing, bytesOfRing, pickOf, Steady};
 use crate::state::Device;
+use crate::state::Ring;
 use command::choice::one_of;
 use command::faults::header_fault;
 use command::flags;
@@ -34,16 +35,26 @@ fn ready_with(command: Command, slot: u32) -> bool
     one_of(one_of(faulty, !waits), is_met(slot, command.target))
 }
 
-// Whether ring q, whose bytes are `ring`, has a ready head command.
-fn ready_at(d: Device, q: u32, ring: &[u8]) -> bool
-    requires { ⌜ (q < 4) × (ringOf d q .cursor ≤ 65536) ⌝ }
-    ensures { λ r. ⌜ r ≡ readyAt d q (now (ring .entry)) ⌝ }
+fn slot_in(slots: &[u32], n: u8) -> u32
+    ensures { λ r. ⌜ r ≡ getD (now (slots .entry)) n 0 ⌝ }
 {
-    let at = d.ring(q);
-    let cursor = at.cursor as usize;
-    let command = command_at(ring, cursor);
-    let slot = d.slot(command.rdst);
-    both(is_whole(ring, cursor), ready_with(command, slot))
+    let at = n as usize;
+    if at < slots.len() { slots[at] } else { 0 }
+}
+
+// Whether a ring has a ready head command. The slots are lent, and not the device handed over: copies of it would cost
+// more than all else.
+fn is_ready(ring: Ring, slots: &[u32], bytes: &[u8]) -> bool
+    requires { ⌜ ring .cursor ≤ 65536 ⌝ }
+    ensures { λ r. ⌜ r ≡ readyWhere ring (now (slots .entry)) (now (bytes .entry)) ⌝ }
+{
+    let cursor = ring.cursor as usize;
+    let command = command_at(bytes, cursor);
+    let slot = slot_in(slots, command.rdst);
+    both(
+        is_whole(bytes, cursor, command),
+        ready_with(command, slot),
+    )
 }
 
 pub fn next_ring(q: u32) -> u32
@@ -74,7 +85,9 @@ pub fn pick<'a>(d: Device, r0: &'a [u8], r1: &'a [u8], r2: &'a [u8], r3: &'a [u8
         if left == 0 {
             break Picked::Nobody;
         }
-        if ready_at(d, q, bytes_of_ring(q, r0, r1, r2, r3)) {
+        let at = q as usize;
+        let ring = d.rings[at];
+        if is_ready(ring, &d.slots, bytes_of_ring(q, r0, r1, r2, r3)) {
             break Picked::Ring(q);
         }
         q = next_ring(q);
