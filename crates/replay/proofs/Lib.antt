@@ -1,2 +1,6 @@
 pub mod Fits
 pub mod Shapes
+pub mod Lines
+pub mod TextLaws
+pub mod InPlay
+pub mod JobText

@@ -1,9 +1,9 @@
 -- A turn leaves four rings and 64 slots, and a fresh device has them.
 -- Assumes nothing.
-use mathlib.Core.Path.{_≡_, refl, _∙_, ap}
+use mathlib.Core.Path.{refl, _∙_}
 use mathlib.Core.Bool.{Bool, true, false}
 use Prim.Native.Nat.{ℕ}
-use lib.ListN.{length, length-set}
+use lib.ListN.{length-set}
 use Rattle.command.specs.declared.header.Command.{Command}
 use Rattle.command.specs.declared.work.Performed.{Performed}
 use Rattle.command.specs.Choice.{either}

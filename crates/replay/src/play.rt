@@ -1,55 +1,30 @@
 // A job played on a fresh device.
+ghost use mathlib.Core.Path.{_≡_};
 ghost use Prim.Native.Nat.{_≤_};
 ghost use lib.ListN.{length};
-ghost use Rattle.device.specs.Left.{Shaped};
-ghost use Rattle.job.specs.Parts.{bytesOf};
-use command::outcome::number;
+ghost use Rattle.device.specs.Turn.{callOf};
+ghost use Rattle.device.specs.Left.{Shaped, bytesLeft};
+ghost use Rattle.job.specs.Parse.{partsOf};
+ghost use Rattle.job.specs.Put.{Spelled};
+ghost use Rattle.replay.specs.Transcript.{allLines, asWindow, emptyPipe, firstCall, jobText, transcriptOf};
+use crate::text::TEXT_BYTES;
+use crate::text::append;
+use crate::text::append_idle;
+use crate::text::append_refused;
+use crate::text::append_turn;
 use device::fresh::Making;
 use device::fresh::make;
 use device::refusal::refusal_number;
 use device::state::Device;
 use device::state::Window;
 use device::turn::Answer;
-use device::turn::Report;
 use device::turn::turn;
-use job::line::spell_idle;
-use job::line::spell_refused;
-use job::line::spell_turn;
 use job::parse::Parsed;
 use job::parse::take_apart;
 use job::parts::Job;
 use job::parts::bytes_of;
-use libc::STDOUT_FILENO;
-use memory::transfer::write_words;
-use words::arithmetic::add;
 
-fn print_turn(turn: u32, report: Report) {
-    let mut line = [0u8; 64];
-    let outcome = report.outcome;
-    let n = spell_turn(
-        &mut line,
-        turn,
-        report.ring,
-        number(outcome),
-        report.fence,
-        report.words,
-    );
-    io::write_all(STDOUT_FILENO, &line[..n]);
-}
-
-fn print_idle(turns: u32) {
-    let mut line = [0u8; 64];
-    let n = spell_idle(&mut line, turns);
-    io::write_all(STDOUT_FILENO, &line[..n]);
-}
-
-fn print_refused(reason: u32) {
-    let mut line = [0u8; 64];
-    let n = spell_refused(&mut line, reason);
-    io::write_all(STDOUT_FILENO, &line[..n]);
-}
-
-// Turns until idle or refused. Each served turn takes bytes of a ring, so the loop ends.
+// Turns until idle or refused. Each served turn takes bytes of a ring, so the loop ends and the text has room.
 fn play_turns<'a>(
     device: Device,
     memory: &mut [u8],
@@ -58,48 +33,62 @@ fn play_turns<'a>(
     r2: &'a [u8],
     r3: &'a [u8],
     pack: &[u8],
-)
-    requires { ⌜ Shaped device ⌝ }
+    text: &mut [u8],
+) -> usize
+    requires { ⌜ Shaped device × (bytesLeft device (callOf (now memory) (now r0) (now r1) (now r2) (now r3) (now pack) emptyPipe) ≤ 61440) × (262144 ≤ length (now text)) ⌝ }
+    ensures { λ r. ⌜ Spelled (allLines 0 device (callOf (now (memory .entry)) (now (r0 .entry)) (now (r1 .entry)) (now (r2 .entry)) (now (r3 .entry)) (now (pack .entry)) emptyPipe)) (now (text .entry)) (now (text .exit)) r ⌝ }
 {
     let mut pipe = [0u8; 1020];
     let mut d = device;
     let mut turns: u32 = 0;
+    let mut n: usize = 0;
     loop {
         let turned = turn(d, memory, r0, r1, r2, r3, pack, &mut pipe);
         let answer = turned.answer;
         match answer {
             Answer::Served(report) => {
-                turns = add(turns, 1);
-                print_turn(turns, report);
+                turns += 1;
+                n = append_turn(text, n, turns, report);
             }
-            Answer::Idle => {
-                print_idle(turns);
-                return;
-            }
-            Answer::Refused(why) => {
-                print_refused(refusal_number(why));
-                return;
-            }
+            Answer::Idle => return append_idle(text, n, turns),
+            Answer::Refused(why) => return append_refused(text, n, refusal_number(why)),
         }
         d = turned.device;
     }
 }
 
-fn window_of(window: job::parts::Window) -> Window {
+// The job's rings on a device. Its memory is a copy of the job's words, in a buffer of this function.
+fn play_on(device: Device, input: &[u8], job: Job, text: &mut [u8]) -> usize
+    requires { ⌜ Shaped device × (partsOf (now input) ≡ Parsed.Accepted job) × (262144 ≤ length (now text)) ⌝ }
+    ensures { λ r. ⌜ Spelled (allLines 0 device (firstCall (now (input .entry)) job)) (now (text .entry)) (now (text .exit)) r ⌝ }
+{
+    let words = bytes_of(input, job.memory);
+    let r0 = bytes_of(input, job.ring0);
+    let r1 = bytes_of(input, job.ring1);
+    let r2 = bytes_of(input, job.ring2);
+    let r3 = bytes_of(input, job.ring3);
+    let pack = bytes_of(input, job.pack);
+    let mut memory = io::large_buffer();
+    let n = append(&mut memory, 0, words);
+    play_turns(device, &mut memory[..n], r0, r1, r2, r3, pack, text)
+}
+
+fn window_of(window: job::parts::Window) -> Window
+    ensures { λ r. ⌜ r ≡ asWindow window ⌝ }
+{
     Window {
         start: window.start,
         length: window.length,
     }
 }
 
-// At most 4,096 memory words, so they fit in the buffer.
-fn play(input: &[u8], job: Job)
-    requires { ⌜ length (bytesOf (now input) (job .memory)) ≤ 16384 ⌝ }
+fn play(input: &[u8], job: Job, text: &mut [u8]) -> usize
+    requires { ⌜ (partsOf (now input) ≡ Parsed.Accepted job) × (262144 ≤ length (now text)) ⌝ }
+    ensures { λ r. ⌜ Spelled (jobText (now (input .entry)) job) (now (text .entry)) (now (text .exit)) r ⌝ }
 {
     let words = bytes_of(input, job.memory);
-    let n = words.len();
     let made = make(
-        n,
+        words.len(),
         window_of(job.window0),
         window_of(job.window1),
         window_of(job.window2),
@@ -107,33 +96,20 @@ fn play(input: &[u8], job: Job)
     );
     let answer = made.answer;
     match answer {
-        Making::Made => {}
-        Making::Refused(why) => {
-            print_refused(refusal_number(why));
-            return;
+        Making::Made => {
+            let device = made.device;
+            play_on(device, input, job, text)
         }
+        Making::Refused(why) => append_refused(text, 0, refusal_number(why)),
     }
-    let mut memory = io::large_buffer();
-    write_words(&mut memory, 0, words, 0, n / 4);
-    let device = made.device;
-    let r0 = bytes_of(input, job.ring0);
-    let r1 = bytes_of(input, job.ring1);
-    let r2 = bytes_of(input, job.ring2);
-    let r3 = bytes_of(input, job.ring3);
-    play_turns(
-        device,
-        &mut memory[..n],
-        r0,
-        r1,
-        r2,
-        r3,
-        bytes_of(input, job.pack),
-    );
 }
 
-pub fn replay(input: &[u8]) {
+// The whole text that an input prints, at the front of the lent bytes; the answer is its length.
+pub fn transcribe(input: &[u8], text: &mut [u8; TEXT_BYTES]) -> usize
+    ensures { λ r. ⌜ Spelled (transcriptOf (now (input .entry))) (now (text .entry)) (now (text .exit)) r ⌝ }
+{
     match take_apart(input) {
-        Parsed::Accepted(job) => play(input, job),
-        Parsed::Refused(section) => print_refused(section),
+        Parsed::Accepted(job) => play(input, job, text),
+        Parsed::Refused(section) => append_refused(text, 0, section),
     }
 }

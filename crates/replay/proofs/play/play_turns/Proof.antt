@@ -1,111 +1,91 @@
-use Rattle.replay.proofs.Shapes.{turn-shaped}
-use Prim.Native.Nat.{_+_, _≤_}
-use mathlib.Core.Path.{_≡_, refl, sym, ap, _∙_}
+-- `replay::play::play_turns` meets its contract. Assumes nothing.
+use mathlib.Core.Path.{refl, sym, _∙_}
 use mathlib.Core.List.{[]}
 use lib.ListN.{length}
 use native.Mathlib.Omega.{arith}
 use borrow.Author.Needs.{needs}
 use denote.Ref.{now}
 use Rattle.device.specs.Turn.{callOf}
-use Rattle.device.specs.Left.{Shaped, bytesLeft}
-use Rattle.device.proofs.BytesLeft.{served-takes}
+use Rattle.device.specs.Left.{bytesLeft}
+use Rattle.replay.specs.Transcript.{emptyPipe}
+use Rattle.replay.proofs.InPlay.{In-play, starts, line-fits, ends-idle, ends-refused, falls, goes-on}
 use Rattle.replay.proofs.play.play_turns.Statement.{statement}
 use Rattle.replay.proofs.play.play_turns.Tie as tie
-use Rattle.replay.proofs.play.play_turns.Reads as reads
-use Rattle.replay.proofs.play.play_turns.Lts as lts
-use Rattle.device.proofs.refusal.refusal_number.Reads as refusal-number-reads
-use Rattle.device.proofs.turn.turn.Reads as turn-reads
-use Rattle.replay.proofs.play.print_idle.Reads as print-idle-reads
-use Rattle.replay.proofs.play.print_refused.Reads as print-refused-reads
-use Rattle.replay.proofs.play.print_turn.Reads as print-turn-reads
-use Rattle.words.proofs.arithmetic.add.Reads as add-reads
 
 abbrev Inv-loop : tie.InvT-loop
-Inv-loop memory₀ r0 r1 r2 r3 pack pipe₀ d₀ turns₀ memory pipe d turns = (length memory ≡ length memory₀) × (length pipe ≡ 1020) × Shaped d
+Inv-loop memory₀ r0 r1 r2 r3 pack text₀ pipe₀ d₀ turns₀ n₀ memory text pipe d turns n = In-play d₀ (callOf memory₀ r0 r1 r2 r3 pack emptyPipe) (length memory₀) text₀ d (callOf memory r0 r1 r2 r3 pack pipe) text turns n
 
 abbrev μ-loop : tie.MeasureT-loop
-μ-loop memory₀ r0 r1 r2 r3 pack pipe₀ d₀ turns₀ memory pipe d turns = bytesLeft d (callOf [] r0 r1 r2 r3 [] [])
+μ-loop memory₀ r0 r1 r2 r3 pack text₀ pipe₀ d₀ turns₀ n₀ memory text pipe d turns n = bytesLeft d (callOf [] r0 r1 r2 r3 [] [])
 
--- src/play.rt:46:5
 loop-holds : tie.Need-loop-holds Inv-loop μ-loop
-loop-holds c = (refl, refl, c .before .before .before .before .before .before .pre)
+unfolding emptyPipe
+loop-holds c =
+    let a = c .before .before .before .before .before .before .before .args in
+    let pre = c .before .before .before .before .before .before .before .pre in
+    starts (a .device) (callOf (now (a .memory)) (now (a .r0)) (now (a .r1)) (now (a .r2)) (now (a .r3)) (now (a .pack)) emptyPipe) (now (a .text)) refl (pre .0) (pre .1)
 
--- src/play.rt:47:60
 slice-aggregate-turn : tie.Need-slice-aggregate-turn Inv-loop μ-loop
-slice-aggregate-turn c = sym (c .before .before .loop .inv .1)
+slice-aggregate-turn c = sym (c .before .before .loop .inv .pipe)
 
--- src/play.rt:47:13
 turn-requires : tie.Need-turn-requires Inv-loop μ-loop
 turn-requires c κs = search needs
 
--- src/play.rt:50:28
 enum-known-answer : tie.Need-enum-known-answer Inv-loop μ-loop
 enum-known-answer c = search needs
 
--- src/play.rt:51:17
-add-requires : tie.Need-add-requires Inv-loop μ-loop
-add-requires c κs = search needs
+add-turns : tie.Need-add-turns Inv-loop μ-loop
+add-turns c = omega (arith, c .before .before .before .before .before .before .before .before .before .loop .inv .left)
 
--- src/play.rt:52:17
-print-turn-requires : tie.Need-print-turn-requires Inv-loop μ-loop
-print-turn-requires c κs = search needs
+append-turn-requires : tie.Need-append-turn-requires Inv-loop μ-loop
+append-turn-requires c κs = line-fits (c .before .before .before .before .before .before .before .before .before .before .loop .inv) (c .before .before .before .before .before .before .before .before .before .before .before .before .before .before .before .before .before .before .pre .2)
 
--- src/play.rt:55:17
 enum-told : tie.Need-enum-told Inv-loop μ-loop
 enum-told c = search needs
 
--- src/play.rt:55:17
-print-idle-requires : tie.Need-print-idle-requires Inv-loop μ-loop
-print-idle-requires c κs = search needs
+append-idle-requires : tie.Need-append-idle-requires Inv-loop μ-loop
+append-idle-requires c κs = line-fits (c .before .before .before .before .before .before .before .before .before .loop .inv) (c .before .before .before .before .before .before .before .before .before .before .before .before .before .before .before .before .before .pre .2)
 
--- src/play.rt:56:17
 same-length : tie.Need-same-length Inv-loop μ-loop
-same-length c = c .before .before .before .before .before .before .turn .kept .1 .0 ∙ c .before .before .before .before .before .before .before .before .before .loop .inv .0
+same-length c = c .before .before .before .before .before .before .before .before .before .turn .kept .1 .0 ∙ c .before .before .before .before .before .before .before .before .before .before .before .before .loop .inv .memory
 
--- src/play.rt:56:17
+same-length-2 : tie.Need-same-length-2 Inv-loop μ-loop
+same-length-2 c = c .before .before .append-idle .kept .0 ∙ c .before .before .before .before .before .before .before .before .before .before .before .before .loop .inv .text
+
 returns : tie.Need-returns Inv-loop μ-loop
-returns c = search needs
+returns c =
+    let t = c .before .before .append-idle in
+    ends-idle (c .before .before .before .before .before .before .before .before .before .before .before .before .loop .inv) (c .before .before .before .before .before .before .before .before .before .turn .ensures) (c .before .before .before .before .enum-told .given .1) (t .ensures .0) (t .ensures .1) (t .kept .0) (c .before .before .before .before .before .before .before .before .before .before .before .before .before .before .before .before .before .before .before .before .pre .2)
 
--- src/play.rt:58:29
 enum-known-answer-2 : tie.Need-enum-known-answer-2 Inv-loop μ-loop
 enum-known-answer-2 c = search needs
 
--- src/play.rt:59:31
 refusal-number-requires : tie.Need-refusal-number-requires Inv-loop μ-loop
 refusal-number-requires c κs = search needs
 
--- src/play.rt:59:17
-print-refused-requires : tie.Need-print-refused-requires Inv-loop μ-loop
-print-refused-requires c κs = search needs
+append-refused-requires : tie.Need-append-refused-requires Inv-loop μ-loop
+append-refused-requires c κs = line-fits (c .before .before .before .before .before .before .before .before .before .before .before .loop .inv) (c .before .before .before .before .before .before .before .before .before .before .before .before .before .before .before .before .before .before .before .pre .2)
 
--- src/play.rt:60:17
-same-length-2 : tie.Need-same-length-2 Inv-loop μ-loop
-same-length-2 c = c .before .before .before .before .before .before .before .before .turn .kept .1 .0 ∙ c .before .before .before .before .before .before .before .before .before .before .before .loop .inv .0
+same-length-3 : tie.Need-same-length-3 Inv-loop μ-loop
+same-length-3 c = c .before .before .before .before .before .before .before .before .before .before .before .turn .kept .1 .0 ∙ c .before .before .before .before .before .before .before .before .before .before .before .before .before .before .loop .inv .memory
 
--- src/play.rt:60:17
+same-length-4 : tie.Need-same-length-4 Inv-loop μ-loop
+same-length-4 c = c .before .before .append-refused .kept .0 ∙ c .before .before .before .before .before .before .before .before .before .before .before .before .before .before .loop .inv .text
+
 returns-2 : tie.Need-returns-2 Inv-loop μ-loop
-returns-2 c = search needs
+returns-2 c =
+    let t = c .before .before .append-refused in
+    ends-refused (c .before .before .before .before .before .before .before .before .before .before .before .before .before .before .loop .inv) (c .before .before .before .before .before .before .before .before .before .before .before .turn .ensures) _ (c .before .before .before .before .before .before .answer2 .given .1) (rw (c .before .before .before .refusal-number .ensures) at (t .ensures .0)) (t .ensures .1) (t .kept .0) (c .before .before .before .before .before .before .before .before .before .before .before .before .before .before .before .before .before .before .before .before .before .before .pre .2)
 
--- src/play.rt:46:5
 loop-less : tie.Need-loop-less Inv-loop μ-loop
 unfolding bytesLeft
-loop-less c =
-    let t = c .before .before .before .before .before .before .before .before .before .turn in
-    let s = c .before .before .before .before .before .before .before .before .before .before .before .before .loop in
-    let a = c .before .before .before .before .before .before .before .before .before .before .before .before .before .before .before .before .before .before .before .args in
-    let call = callOf (s .memory) (now (a .r0)) (now (a .r1)) (now (a .r2)) (now (a .r3)) (now (a .pack)) (s .pipe) in
-    let falls = served-takes 4096 (s .d) call (s .inv .2) _ (sym (ap (λ x. x .answer) (t .ensures .answer)) ∙ c .before .before .before .before .answer .given .1) in
-    omega (arith, rw (← t .ensures .answer) at falls)
+loop-less c = omega (arith, falls (c .before .before .before .before .before .before .before .before .before .before .before .before .before .before .loop .inv) (c .before .before .before .before .before .before .before .before .before .before .before .turn .ensures) _ (c .before .before .before .before .before .before .answer .given .1))
 
--- src/play.rt:46:5
 loop-again : tie.Need-loop-again Inv-loop μ-loop
 loop-again c =
-    let t = c .before .before .before .before .before .before .before .before .before .turn in
-    let s = c .before .before .before .before .before .before .before .before .before .before .before .before .loop in (
-      t .kept .1 .0 ∙ s .inv .0,
-      t .kept .1 .1 .1 .1 .1 .1 .1 .0 ∙ s .inv .1,
-      rw (t .ensures .answer) (turn-shaped _ _ _ (s .inv .2)),
-    )
+    let served = c .before .before .before .before .before .before .before .before .before .before .before .turn in
+    let t = c .before .before .before .append-turn in
+    goes-on (c .before .before .before .before .before .before .before .before .before .before .before .before .before .before .loop .inv) (served .ensures) _ (c .before .before .before .before .before .before .answer .given .1) (t .ensures .0) (t .ensures .1) (t .kept .0) (served .kept .1 .0) (served .kept .1 .1 .1 .1 .1 .1 .1 .0)
 
 pub play-turns-spec : {M : Type 1} → statement M
 play-turns-spec =
@@ -117,16 +97,18 @@ play-turns-spec =
     slice-aggregate-turn
     turn-requires
     enum-known-answer
-    add-requires
-    print-turn-requires
+    add-turns
+    append-turn-requires
     enum-told
-    print-idle-requires
+    append-idle-requires
     same-length
+    same-length-2
     returns
     enum-known-answer-2
     refusal-number-requires
-    print-refused-requires
-    same-length-2
+    append-refused-requires
+    same-length-3
+    same-length-4
     returns-2
     loop-less
     loop-again)
