@@ -51,10 +51,7 @@ fn is_ready(ring: Ring, slots: &[u32], bytes: &[u8]) -> bool
     let cursor = ring.cursor as usize;
     let command = command_at(bytes, cursor);
     let slot = slot_in(slots, command.rdst);
-    both(
-        is_whole(bytes, cursor, command),
-        ready_with(command, slot),
-    )
+    both(is_whole(bytes, cursor, command), ready_with(command, slot))
 }
 
 pub fn next_ring(q: u32) -> u32
