@@ -1,3 +1,4 @@
+-- `compare::compare_all` meets its contract. Assumes nothing.
 use mathlib.Core.Path.{_≡_, refl, _∙_}
 use Prim.Native.Nat.{_≤_, _-_}
 use native.Mathlib.Omega.{arith}
@@ -5,12 +6,6 @@ use borrow.Author.Needs.{needs}
 use lib.ListN.{length}
 use Rattle.compare.proofs.compare_all.Statement.{statement}
 use Rattle.compare.proofs.compare_all.Tie as tie
-use Rattle.compare.proofs.compare_all.Reads as reads
-use Rattle.compare.proofs.compare_all.Lts as lts
-use Rattle.compare.proofs.call.compare.Reads as compare-reads
-use Rattle.compare.proofs.record.next.Reads as next-reads
-use Rattle.compare.proofs.tally.Tally.none.Reads as none-reads
-use Rattle.compare.proofs.tally.Tally.with.Reads as with-reads
 
 abbrev Inv-loop : tie.InvT-loop
 Inv-loop fd body₀ memory₀ lent₀ tally₀ counter₀ body memory lent tally counter =
@@ -19,78 +14,60 @@ Inv-loop fd body₀ memory₀ lent₀ tally₀ counter₀ body memory lent tally
 abbrev μ-loop : tie.MeasureT-loop
 μ-loop fd body₀ memory₀ lent₀ tally₀ counter₀ body memory lent tally counter = 1000000 - counter
 
--- src/main.rt:17:9
 none-requires : tie.Need-none-requires Inv-loop μ-loop
 none-requires c κs = search needs
 
--- src/main.rt:18:5
 loop-holds : tie.Need-loop-holds Inv-loop μ-loop
 loop-holds c = (omega arith, refl, refl, refl)
 
--- src/main.rt:19:13
 next-requires : tie.Need-next-requires Inv-loop μ-loop
 next-requires c κs = search needs
 
--- src/main.rt:23:42
 slice-reshare-prefix-compare : tie.Need-slice-reshare-prefix-compare Inv-loop μ-loop
 slice-reshare-prefix-compare c = search needs
 
--- src/main.rt:23:42
 slice-aggregate-compare : tie.Need-slice-aggregate-compare Inv-loop μ-loop
 slice-aggregate-compare c = search needs
 
--- src/main.rt:23:28
 compare-requires : tie.Need-compare-requires Inv-loop μ-loop
 compare-requires c κs = search needs
 
--- src/main.rt:23:9
 with-requires : tie.Need-with-requires Inv-loop μ-loop
 with-requires c κs = search needs
 
--- src/main.rt:18:9
 add-counter : tie.Need-add-counter Inv-loop μ-loop
 add-counter c = omega arith
 
--- src/main.rt:18:5
 loop-less : tie.Need-loop-less Inv-loop μ-loop
 loop-less c = omega arith
 
--- src/main.rt:18:5
 loop-again : tie.Need-loop-again Inv-loop μ-loop
 loop-again c =
     let i = c .before .before .before .before .before .before .before .before .before .before .before .before .before .before .before .loop .inv in
     let k = c .before .before .before .before .before .compare .kept in
     (omega arith, c .before .before .before .before .before .before .before .before .before .before .before .before .next .kept .1 .0 ∙ i .1, k .1 .0 ∙ i .2, k .1 .1 .0 ∙ i .3)
 
--- src/main.rt:16:1
 same-length : tie.Need-same-length Inv-loop μ-loop
 same-length c = search needs
 
--- src/main.rt:16:1
 same-length-2 : tie.Need-same-length-2 Inv-loop μ-loop
 same-length-2 c = search needs
 
--- src/main.rt:16:1
 same-length-3 : tie.Need-same-length-3 Inv-loop μ-loop
 same-length-3 c = search needs
 
--- src/main.rt:16:1
 returns : tie.Need-returns Inv-loop μ-loop
 returns c = search needs
 
--- src/main.rt:16:1
 same-length-4 : tie.Need-same-length-4 Inv-loop μ-loop
 same-length-4 c = search needs
 
--- src/main.rt:16:1
 same-length-5 : tie.Need-same-length-5 Inv-loop μ-loop
 same-length-5 c = search needs
 
--- src/main.rt:16:1
 same-length-6 : tie.Need-same-length-6 Inv-loop μ-loop
 same-length-6 c = search needs
 
--- src/main.rt:16:1
 returns-2 : tie.Need-returns-2 Inv-loop μ-loop
 returns-2 c = search needs
 

@@ -1,3 +1,4 @@
+-- `compare::piece::lay_bytes` meets its contract. Assumes nothing.
 use denote.Ref.{now}
 use mathlib.Core.Path.{_≡_, refl, sym}
 use Prim.Native.Nat.{_≤_, _-_}
@@ -9,9 +10,6 @@ use Rattle.memory.proofs.Transferred.{transferred-none}
 use Rattle.compare.proofs.Laid.{laid-more}
 use Rattle.compare.proofs.piece.lay_bytes.Statement.{statement}
 use Rattle.compare.proofs.piece.lay_bytes.Tie as tie
-use Rattle.compare.proofs.piece.lay_bytes.Reads as reads
-use Rattle.compare.proofs.piece.lay_bytes.Lts as lts
-use Rattle.memory.proofs.peek.peek_byte.Reads as peek-byte-reads
 
 abbrev Inv-loop : tie.InvT-loop
 Inv-loop target₀ stored n i₀ target i = (i ≤ n) × (length target ≡ length target₀) × (target ≡ transferred stored 0 0 i target₀)
@@ -19,35 +17,27 @@ Inv-loop target₀ stored n i₀ target i = (i ≤ n) × (length target ≡ leng
 abbrev μ-loop : tie.MeasureT-loop
 μ-loop target₀ stored n i₀ target i = n - i
 
--- src/piece.rt:55:5
 loop-holds : tie.Need-loop-holds Inv-loop μ-loop
 loop-holds c = (omega arith, refl, sym (transferred-none _ _ _ _))
 
--- src/piece.rt:56:21
 peek-byte-requires : tie.Need-peek-byte-requires Inv-loop μ-loop
 peek-byte-requires c κs = search needs
 
--- src/piece.rt:56:9
 slice-write-target : tie.Need-slice-write-target Inv-loop μ-loop
 slice-write-target c = omega arith
 
--- src/piece.rt:55:9
 add-i : tie.Need-add-i Inv-loop μ-loop
 add-i c = omega arith
 
--- src/piece.rt:55:5
 loop-less : tie.Need-loop-less Inv-loop μ-loop
 loop-less c = omega arith
 
--- src/piece.rt:55:5
 loop-again : tie.Need-loop-again Inv-loop μ-loop
 loop-again c = (omega arith, simp length-set (c .before .before .loop .inv .1), rw (laid-more, ← c .before .before .loop .inv .2, c .peek-byte .ensures))
 
--- src/piece.rt:51:1
 same-length : tie.Need-same-length Inv-loop μ-loop
 same-length c = c .before .loop .inv .1
 
--- src/piece.rt:51:1
 returns : tie.Need-returns Inv-loop μ-loop
 returns c =
     let all : c .before .loop .i ≡ length (now (c .before .before .before .before .args .target)) = omega arith in

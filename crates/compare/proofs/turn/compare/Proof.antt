@@ -1,123 +1,87 @@
+-- `compare::turn::compare` meets its contract. Assumes nothing.
 use mathlib.Core.Path.{sym}
 use lib.Seq.{length-take-le}
 use borrow.Author.Needs.{needs}
 use Rattle.compare.proofs.turn.compare.Statement.{statement}
 use Rattle.compare.proofs.turn.compare.Tie as tie
-use Rattle.compare.proofs.turn.compare.Reads as reads
-use Rattle.compare.proofs.turn.compare.Lts as lts
-use Rattle.compare.proofs.piece.lay.Reads as lay-reads
-use Rattle.compare.proofs.piece.piece_after.Reads as piece-after-reads
-use Rattle.compare.proofs.piece.piece_at.Reads as piece-at-reads
-use Rattle.compare.proofs.turn.compare_answer.Reads as compare-answer-reads
-use Rattle.compare.proofs.lent.ends_of.Reads as ends-of-reads
-use Rattle.compare.proofs.lent.lay_lent.Reads as lay-lent-reads
-use Rattle.compare.proofs.lent.lay_part.Reads as lay-part-reads
-use Rattle.compare.proofs.turn.left_after.Reads as left-after-reads
-use Rattle.compare.proofs.lent.lent_after.Reads as lent-after-reads
 
--- src/turn.rt:130:9
 piece-at-requires : tie.Need-piece-at-requires
 piece-at-requires c κs = search needs
 
--- src/turn.rt:131:9
 piece-after-requires : tie.Need-piece-after-requires
 piece-after-requires c κs = search needs
 
--- src/turn.rt:132:9
 lent-after-requires : tie.Need-lent-after-requires
 lent-after-requires c κs = search needs
 
--- src/turn.rt:134:9
 piece-after-requires-2 : tie.Need-piece-after-requires-2
 piece-after-requires-2 c κs = search needs
 
--- src/turn.rt:135:9
 left-after-requires : tie.Need-left-after-requires
 left-after-requires c κs = search needs
 
--- src/turn.rt:136:9
 ends-of-requires : tie.Need-ends-of-requires
 ends-of-requires c κs = search needs
 
--- src/turn.rt:137:25
 cast-memory-length : tie.Need-cast-memory-length
 cast-memory-length c = search needs
 
--- src/turn.rt:138:23
 cast-pipe-length : tie.Need-cast-pipe-length
 cast-pipe-length c = search needs
 
--- src/turn.rt:140:9
 returns : tie.Need-returns
 returns c = search needs
 
--- src/turn.rt:143:9
 returns-2 : tie.Need-returns-2
 returns-2 c = search needs
 
--- src/turn.rt:146:9
 returns-3 : tie.Need-returns-3
 returns-3 c = search needs
 
--- src/turn.rt:150:9
 slice-aggregate-lay : tie.Need-slice-aggregate-lay
 slice-aggregate-lay c = search needs
 
--- src/turn.rt:150:5
 lay-requires : tie.Need-lay-requires
 lay-requires c κs = search needs
 
--- src/turn.rt:151:5
 lay-part-requires : tie.Need-lay-part-requires
 lay-part-requires c κs = search needs
 
--- src/turn.rt:152:14
 slice-aggregate-lay-part : tie.Need-slice-aggregate-lay-part
 slice-aggregate-lay-part c = search needs
 
--- src/turn.rt:152:5
 lay-part-requires-2 : tie.Need-lay-part-requires-2
 lay-part-requires-2 c κs = search needs
 
--- src/turn.rt:153:5
 lay-lent-requires : tie.Need-lay-lent-requires
 lay-lent-requires c κs = search needs
 
--- src/turn.rt:154:26
 slice-aggregate-compare-answer : tie.Need-slice-aggregate-compare-answer
 slice-aggregate-compare-answer c = search needs
 
--- src/turn.rt:154:44
 slice-relend-prefix-compare-answer : tie.Need-slice-relend-prefix-compare-answer
 slice-relend-prefix-compare-answer c = search needs
 
--- src/turn.rt:154:44
 slice-aggregate-compare-answer-2 : tie.Need-slice-aggregate-compare-answer-2
 slice-aggregate-compare-answer-2 c =
     sym (length-take-le _ _ (rw (c .before .before .before .before .before .before .before .before .before .before .before .lay-part .kept .0) (c .before .before .before .before .before .before .before .before .before .before .before .before .before .before .before .before .before .before .before .if1 .left)))
 
--- src/turn.rt:154:86
 array-borrow-prefix-pipe-bytes : tie.Need-array-borrow-prefix-pipe-bytes
 array-borrow-prefix-pipe-bytes c = search needs
 
--- src/turn.rt:154:86
 slice-aggregate-compare-answer-3 : tie.Need-slice-aggregate-compare-answer-3
 slice-aggregate-compare-answer-3 c =
     sym (length-take-le _ _ (rw (c .before .before .before .before .before .before .before .before .before .lay-part2 .kept .0) (c .before .before .before .before .before .before .before .before .before .before .before .before .before .before .before .before .before .before .if3 .left)))
 
--- src/turn.rt:154:5
 compare-answer-requires : tie.Need-compare-answer-requires
 compare-answer-requires c κs = search needs
 
--- src/turn.rt:129:1
 same-length : tie.Need-same-length
 same-length c = search needs
 
--- src/turn.rt:129:1
 same-length-2 : tie.Need-same-length-2
 same-length-2 c = search needs
 
--- src/turn.rt:129:1
 returns-4 : tie.Need-returns-4
 returns-4 c = search needs
 
