@@ -21,7 +21,7 @@ use Rattle.command.proofs.Choices.{both-left, both-right}
 use Rattle.device.specs.declared.state.Device.{Device}
 use Rattle.device.specs.declared.ready.Picked.the-variants.{Ring as RingOf}
 use Rattle.device.specs.State.{ringOf, slotOf}
-use Rattle.device.specs.Ready.{isMet, readyWith, readyAt, pickOf}
+use Rattle.device.specs.Ready.{isMet, readyWith, readyWhere, readyAt, pickOf}
 use Rattle.device.specs.Turn.{Call, After, turnOf, unchanged, reportOf, finished, servedOf}
 use Rattle.device.proofs.Wholes.{whole-inside}
 use Rattle.demands.specs.Calls.{ringIn, headIn, answerOf, deviceOf, isRefused, ServesRing, SlotsFit, heard, EachHeard, none, more, Serves, here, later}
@@ -65,7 +65,7 @@ module _ (q : ℕ) (b : List ℕ) (k : ℕ) where
 
   -- a waiting ring is ready in each call that keeps its head
   still-ready : (j : ℕ) (d : Device) → Waiting j d → (r : List ℕ) → SameHead b k r → readyAt d q r ≡ true
-  unfolding readyAt
+  unfolding readyAt readyWhere slotOf
   still-ready j d w r same =
       let c = command-agree b r k (same .bytes) in
       rw (w .cursor, whole-agree b r k (same .bytes) (same .inside), ← c) (w .ready)
@@ -171,12 +171,12 @@ module _ (full : FullSlotStays) where
       (refused-or-marked limit d call)
 
   pub four-turns-by-head : FourTurnsByHead
-  unfolding FourTurnsByHead readyAt
+  unfolding FourTurnsByHead readyAt readyWhere slotOf
   four-turns-by-head limit d q b calls four fit ready each enough =
       waits limit q b (ringOf d q .cursor) four calls d fit refl (both-right (isWhole b (ringOf d q .cursor)) _ ready) each enough
 
   pub four-turns : FourTurns
-  unfolding FourTurns FourTurnsByHead readyAt
+  unfolding FourTurns FourTurnsByHead readyAt readyWhere slotOf
   four-turns limit d q b calls four fit ready each enough =
       let k = ringOf d q .cursor in
       let whole = both-left (isWhole b k) (readyWith (commandAt b k) (slotOf d (commandAt b k .rdst))) ready in

@@ -21,7 +21,7 @@ use Rattle.device.specs.declared.refusal.Verdict.the-variants.{Sound}
 use Rattle.device.specs.declared.ready.Picked.the-variants.{Ring as RingOf}
 use Rattle.device.specs.declared.turn.Answer.the-variants.{Idle}
 use Rattle.device.specs.State.{freshDevice, ringOf, slotOf}
-use Rattle.device.specs.Ready.{readyAt, pickOf}
+use Rattle.device.specs.Ready.{readyWhere, readyAt, pickOf}
 use Rattle.device.specs.Turn.{Call, emitted, unchanged, deviceAfter, finished, reportOf, servedOf, verdictOn}
 use Rattle.device.proofs.Verdicts.{each-of-four, steady}
 use Rattle.demands.specs.Calls.{ringIn, headIn, answerOf, deviceOf, isRefused, SlotsFit, EachHeard, none, more, Formed}
@@ -87,7 +87,7 @@ module _ (limit : ℕ) (R : ℕ → List ℕ) where
   -- an order of starts stays behind a device of which no ring is ready
   behind : (d : Device) (t : ℕ → ℕ) → Took R d t → ((q : ℕ) → q < 4 → readyAt d q (R q) ≡ true → ⊥)
       → {n : ℕ → ℕ} → Order R n → (q : ℕ) → n q ≤ t q
-  unfolding readyAt
+  unfolding readyAt readyWhere slotOf
   behind d t took unready nothing q = omega arith
   behind d t took unready (start {n} before r four whole ready) q = go (λ p. behind d t took unready before p) (eqb q r) refl
     where

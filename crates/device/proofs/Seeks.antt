@@ -14,13 +14,13 @@ use Rattle.command.specs.Choice.{either}
 use Rattle.device.specs.declared.state.Device.{Device}
 use Rattle.device.specs.declared.state.Ring.{Ring as RingState}
 use Rattle.device.specs.declared.ready.Picked.the-variants.{Ring, Nobody}
-use Rattle.device.specs.State.{ringOf, slotOf}
+use Rattle.device.specs.State.{ringOf}
 use Rattle.device.specs.Ready.{readyWhere, readyAt, nextRing, seek}
 
 -- what was found of a ring and its bytes is what the device's readiness says
 pub told : (d : Device) (q : ℕ) (b : List ℕ) {ring : RingState} {bytes : List ℕ} {r answer : Bool} → ring ≡ ringOf d q → bytes ≡ b
     → r ≡ readyWhere ring (d .slots) bytes → r ≡ answer → readyAt d q b ≡ answer
-unfolding readyAt readyWhere slotOf
+unfolding readyAt
 told d q b same-ring same-bytes said is = rw (← same-ring, ← same-bytes) (sym said ∙ is)
 
 -- the ring after a ring of four is one of four

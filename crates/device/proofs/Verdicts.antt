@@ -21,7 +21,7 @@ use Rattle.device.specs.declared.ready.Picked.{Picked}
 use Rattle.device.specs.declared.ready.Picked.the-variants.{Ring, Nobody}
 use Rattle.device.specs.State.{ringOf, slotOf}
 use Rattle.device.specs.Refusal.{windowFits, memoryFits, windowsFit, ringSound, stateSound, ringFits, ringsFit, verdictOf}
-use Rattle.device.specs.Ready.{readyWith, readyAt, nextRing, seek, bytesOfRing, pickOf, Steady}
+use Rattle.device.specs.Ready.{readyWith, readyWhere, readyAt, nextRing, seek, bytesOfRing, pickOf, Steady}
 use Rattle.device.specs.Turn.{Servable}
 use Rattle.device.proofs.Seeks.{next-below}
 
@@ -108,7 +108,7 @@ module _ (d : Device) (memory : ℕ) (r0 r1 r2 r3 : List ℕ) (pipe : ℕ) (pack
   picked q e = found (λ p. readyAt d p (bytesOfRing p r0 r1 r2 r3)) 4 (d .marker) q (steady .marker) e
 
   pub servable : (q : ℕ) → pickOf d r0 r1 r2 r3 ≡ Ring q → Servable d q memory (bytesOfRing q r0 r1 r2 r3) pipe
-  unfolding readyAt
+  unfolding readyAt readyWhere
   servable q e = record {
     number = picked q e .0;
     fits = window-inside q (picked q e .0);

@@ -14,7 +14,7 @@ use Rattle.device.specs.declared.state.Device.{Device}
 use Rattle.device.specs.declared.state.Ring.{Ring as RingState}
 use Rattle.device.specs.declared.ready.Picked.{Picked}
 use Rattle.device.specs.declared.ready.Picked.the-variants.{Ring, Nobody}
-use Rattle.device.specs.State.{ringOf, slotOf}
+use Rattle.device.specs.State.{ringOf}
 
 -- a wait is met if the slot's number is at least the target
 abbrev pub isMet : ℕ → ℕ → Bool
@@ -30,12 +30,9 @@ readyWhere ring slots bytes =
     let c = commandAt bytes (ring .cursor) in
     isWhole bytes (ring .cursor) && readyWith c (getD slots (c .rdst) 0)
 
--- ring q, whose bytes are `ring`, is ready: its head command is whole and ready
+-- ring q of the device, whose bytes are these, is ready
 unfoldable pub readyAt : Device → ℕ → List ℕ → Bool
-readyAt d q ring =
-    let cursor = ringOf d q .cursor in
-    let c = commandAt ring cursor in
-    isWhole ring cursor && readyWith c (slotOf d (c .rdst))
+readyAt d q bytes = readyWhere (ringOf d q) (d .slots) bytes
 
 -- after 3 comes 0
 unfoldable pub nextRing : ℕ → ℕ
