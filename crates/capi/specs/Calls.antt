@@ -7,13 +7,11 @@ use lib.Dec.{eqb}
 use lib.ListN.{length}
 use Rattle.command.specs.Choice.{either}
 use Rattle.device.specs.declared.state.Device.{Device}
-use Rattle.device.specs.declared.fresh.Making.{Making}
-use Rattle.device.specs.declared.fresh.Making.the-variants.{Made, Refused}
 use Rattle.device.specs.declared.fresh.Fresh.{Fresh}
 use Rattle.device.specs.declared.turn.Answer.{Answer}
 use Rattle.device.specs.declared.turn.Answer.the-variants.{Refused as RefusedFor, Idle, Served}
 use Rattle.device.specs.Fresh.{freshOf}
-use Rattle.device.specs.Refusal.{refusalNumber}
+use Rattle.device.specs.Answer.{makingNumber}
 use Rattle.device.specs.Turn.{Call, After, turnOf}
 use Rattle.capi.specs.Image.{encode, decode, windowAt}
 use Rattle.capi.specs.Report.{reportBytes, answerWord}
@@ -27,11 +25,6 @@ pub record Freshened : Type 0 where
 pub record Freshens (i : List ℕ) (r : ℕ) (f : Freshened) : Type 0 where
   pub image : i ≡ f .image
   pub answer : r ≡ f .answer
-
--- 0 made, or the refusal's number
-unfoldable pub makingNumber : Making → ℕ
-makingNumber Made = 0
-makingNumber (Refused why) = refusalNumber why
 
 -- a fresh device of four windows, eight words
 abbrev pub freshFor : List ℕ → ℕ → Fresh

@@ -11,7 +11,7 @@ use Rattle.command.specs.Frame.{strideOf}
 use Rattle.device.specs.declared.state.Window.{Window}
 use Rattle.device.specs.declared.state.Ring.{Ring}
 use Rattle.device.specs.declared.state.Device.{Device}
-use Rattle.device.specs.State.{ringOf}
+use Rattle.device.specs.State.{deviceOf, ringOf}
 
 -- the bytes of words, the lowest byte of each first
 unfoldable pub bytesOf : List ℕ → List ℕ
@@ -75,8 +75,5 @@ ringAt image k = record {
 
 -- the device of an image
 unfoldable pub decode : List ℕ → Device
-decode image = record {
-  rings = ringAt image 0 ∷ ringAt image 7 ∷ ringAt image 14 ∷ ringAt image 21 ∷ [];
-  slots = wordsIn image 28 64;
-  marker = wordIn image 92;
-}
+decode image =
+    deviceOf (ringAt image 0 ∷ ringAt image 7 ∷ ringAt image 14 ∷ ringAt image 21 ∷ []) (wordsIn image 28 64) (wordIn image 92)

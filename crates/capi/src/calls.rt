@@ -2,7 +2,7 @@
 ghost use mathlib.Core.Path.{_≡_};
 ghost use lib.ListN.{length};
 ghost use Rattle.device.specs.Turn.{callOf};
-ghost use Rattle.capi.specs.Calls.{makingNumber, isServed, imageAfter, freshCall, Freshens, turnCall, Leaves};
+ghost use Rattle.capi.specs.Calls.{isServed, imageAfter, freshCall, Freshens, turnCall, Leaves};
 use crate::image::IMAGE_BYTES;
 use crate::image::device_in;
 use crate::image::put_device;
@@ -10,9 +10,8 @@ use crate::lent::put_words;
 use crate::lent::window_at;
 use crate::report::REPORT_BYTES;
 use crate::report::report_words;
-use device::fresh::Making;
 use device::fresh::make;
-use device::refusal::refusal_number;
+use device::fresh::making_number;
 use device::state::Device;
 use device::turn::Answer;
 use device::turn::turn;
@@ -25,15 +24,6 @@ pub const WRONG_REPORT: u32 = 202;
 pub const WRONG_WINDOWS: u32 = 203;
 
 const WINDOWS_BYTES: usize = 32;
-
-fn making_number(making: Making) -> u32
-    ensures { λ r. ⌜ r ≡ makingNumber making ⌝ }
-{
-    match making {
-        Making::Made => 0,
-        Making::Refused(why) => refusal_number(why),
-    }
-}
 
 // `memory` is the memory's length.
 pub fn fresh_call(image: &mut [u8], windows: &[u8], memory: usize) -> u32

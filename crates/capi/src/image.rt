@@ -149,10 +149,5 @@ pub fn device_in(image: &[u8]) -> Device
         ring_at(image, 14),
         ring_at(image, 21),
     ];
-    let slots = slots_of(image);
-    Device {
-        rings,
-        slots,
-        marker: word_in(image, 92),
-    }
+    Device::of(rings, slots_of(image), word_in(image, 92))
 }

@@ -3,4 +3,5 @@ pub mod Refusal
 pub mod Fresh
 pub mod Ready
 pub mod Turn
+pub mod Answer
 pub mod Left

@@ -15,13 +15,13 @@ emptyWindow = record { start = 0; length = 0 }
 abbrev pub freshRing : Window → Ring
 freshRing window = record { window = window; cursor = 0; frame = Unset }
 
+-- a device of these parts
+abbrev pub deviceOf : List Ring → List ℕ → ℕ → Device
+deviceOf rings slots marker = record { rings = rings; slots = slots; marker = marker }
+
 -- a fresh device: all 64 slots 0, the marker 0
 unfoldable pub freshDevice : Window → Window → Window → Window → Device
-freshDevice w0 w1 w2 w3 = record {
-  rings = freshRing w0 ∷ freshRing w1 ∷ freshRing w2 ∷ freshRing w3 ∷ [];
-  slots = replicate 64 0;
-  marker = 0;
-}
+freshDevice w0 w1 w2 w3 = deviceOf (freshRing w0 ∷ freshRing w1 ∷ freshRing w2 ∷ freshRing w3 ∷ []) (replicate 64 0) 0
 
 -- ring q
 unfoldable pub ringOf : Device → ℕ → Ring
@@ -33,10 +33,10 @@ slotOf d n = getD (d .slots) n 0
 
 -- the device with one ring, one slot or the marker changed
 unfoldable pub withRing : Device → ℕ → Ring → Device
-withRing d q ring = record { rings = set (d .rings) q ring; slots = d .slots; marker = d .marker }
+withRing d q ring = deviceOf (set (d .rings) q ring) (d .slots) (d .marker)
 
 unfoldable pub withSlot : Device → ℕ → ℕ → Device
-withSlot d n number = record { rings = d .rings; slots = set (d .slots) n number; marker = d .marker }
+withSlot d n number = deviceOf (d .rings) (set (d .slots) n number) (d .marker)
 
 unfoldable pub withMarker : Device → ℕ → Device
-withMarker d marker = record { rings = d .rings; slots = d .slots; marker = marker }
+withMarker d marker = deviceOf (d .rings) (d .slots) marker

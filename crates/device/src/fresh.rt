@@ -1,8 +1,10 @@
 // Making a fresh device.
 ghost use mathlib.Core.Path.{_≡_};
 ghost use Rattle.device.specs.Fresh.{freshOf};
+ghost use Rattle.device.specs.Answer.{makingNumber};
 use crate::refusal::Refusal;
 use crate::refusal::memory_fits;
+use crate::refusal::refusal_number;
 use crate::state::Device;
 use crate::state::Window;
 
@@ -14,6 +16,16 @@ pub enum Making {
 pub struct Fresh {
     pub device: Device,
     pub answer: Making,
+}
+
+// 0 made, or the refusal's number.
+pub fn making_number(making: Making) -> u32
+    ensures { λ r. ⌜ r ≡ makingNumber making ⌝ }
+{
+    match making {
+        Making::Made => 0,
+        Making::Refused(why) => refusal_number(why),
+    }
 }
 
 // `memory` is the memory's length. A refusal comes with a fresh device of four empty windows at 0.

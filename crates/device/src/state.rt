@@ -1,7 +1,7 @@
-// The device's state. A `Device` is made in one place, and otherwise a copy is changed field by field.
+// The device's state.
 ghost use mathlib.Core.Path.{_≡_};
 ghost use Prim.Native.Nat.{_<_};
-ghost use Rattle.device.specs.State.{emptyWindow, freshRing, freshDevice, ringOf, slotOf, withRing, withSlot, withMarker};
+ghost use Rattle.device.specs.State.{emptyWindow, deviceOf, freshRing, freshDevice, ringOf, slotOf, withRing, withSlot, withMarker};
 use command::frame::Frame;
 
 // A ring's part of the memory.
@@ -33,6 +33,17 @@ fn fresh_ring(window: Window) -> Ring
 }
 
 impl Device {
+    // The one place where a device is made; elsewhere a copy is changed field by field.
+    pub fn of(rings: [Ring; 4], slots: [u32; 64], marker: u32) -> Self
+        ensures { λ r. ⌜ r ≡ deviceOf rings slots marker ⌝ }
+    {
+        Device {
+            rings,
+            slots,
+            marker,
+        }
+    }
+
     pub fn fresh(w0: Window, w1: Window, w2: Window, w3: Window) -> Self
         ensures { λ r. ⌜ r ≡ freshDevice w0 w1 w2 w3 ⌝ }
     {
@@ -42,11 +53,7 @@ impl Device {
             fresh_ring(w2),
             fresh_ring(w3),
         ];
-        Device {
-            rings,
-            slots: [0; 64],
-            marker: 0,
-        }
+        Device::of(rings, [0; 64], 0)
     }
 
     pub fn ring(self, q: u32) -> Ring

@@ -3,7 +3,7 @@ ghost use mathlib.Core.Path.{_≡_};
 ghost use Prim.Native.Nat.{_+_, _^_, _<_};
 ghost use lib.ListN.{length};
 ghost use Rattle.device.specs.State.{ringOf, slotOf};
-ghost use Rattle.device.specs.Turn.{fenceOf, emitTo, ringAfter, deviceAfter, reportOf, finished, Shows, Servable, servedOf, callOf, turnOf};
+ghost use Rattle.device.specs.Turn.{emitted, fenceOf, emitTo, ringAfter, deviceAfter, reportOf, finished, Shows, Servable, servedOf, callOf, turnOf};
 ghost use Rattle.device.specs.Ready.{bytesOfRing};
 use crate::ready::Picked;
 use crate::ready::bytes_of_ring;
@@ -47,17 +47,24 @@ pub struct Turned {
     pub answer: Answer,
 }
 
+// The number that an emit leaves in its slot.
+fn emitted(slot: u32) -> u32
+    ensures { λ r. ⌜ r ≡ emitted slot ⌝ }
+{
+    add(slot, 1)
+}
+
 fn fence_of(emitting: bool, slot: u32) -> u32
     ensures { λ r. ⌜ r ≡ fenceOf emitting slot ⌝ }
 {
-    if emitting { add(slot, 1) } else { 0 }
+    if emitting { emitted(slot) } else { 0 }
 }
 
 fn emit_to(emitting: bool, d: Device, n: u8, slot: u32) -> Device
     ensures { λ r. ⌜ r ≡ emitTo emitting d n slot ⌝ }
 {
     if emitting {
-        d.with_slot(n, add(slot, 1))
+        d.with_slot(n, emitted(slot))
     } else {
         d
     }

@@ -1,16 +1,24 @@
 -- `capi::calls::turn_call` meets its contract. Assumes nothing.
 use mathlib.Core.Path.{_≡_, refl}
 use denote.Ref.{now}
-use lib.ListN.{length}
+use mathlib.Core.List.{List}
+use Prim.Native.Nat.{ℕ}
+use lib.ListN.{length, getD}
+use Rattle.device.specs.declared.turn.Answer.{Answer}
 use Rattle.capi.proofs.WordBytes.{words-whole}
 use native.Mathlib.Omega.{arith}
 use Rattle.capi.specs.Calls.{turnCall, untouched, calledOf}
-use Rattle.capi.specs.Report.{reportBytes, answerWord}
+use Rattle.capi.specs.Report.{answerWord, reportWords, reportBytes}
 use Rattle.command.specs.Choice.{either}
 use borrow.Author.Tests.{eq-eqb, ne-eqb}
 use borrow.Author.Needs.{needs}
 use Rattle.capi.proofs.calls.turn_call.Statement.{statement}
 use Rattle.capi.proofs.calls.turn_call.Tie as tie
+
+-- a report's first word is the answer's
+first-word : (answer : Answer) (words : List ℕ) → words ≡ reportWords answer → getD words 0 0 ≡ answerWord answer
+unfolding reportWords
+first-word answer words e = rw e
 
 returns : tie.Need-returns
 unfolding turnCall untouched either
@@ -58,7 +66,7 @@ same-length-4 : tie.Need-same-length-4
 same-length-4 c = search needs
 
 returns-3 : tie.Need-returns-3
-unfolding turnCall calledOf reportBytes answerWord either
+unfolding turnCall calledOf reportBytes either
 returns-3 c = let s = c .before .before .before .before .before .before .before .before .before .before .before .before .before .before .before .before .before .before .before .before .before .before .before .before .before .before .before .before .before .before .before .args in
     let image : length (now (s .image)) ≡ 372 = omega (arith, c .before .before .before .before .before .before .before .before .before .before .before .before .before .before .before .before .before .before .before .before .before .if1 .left) in
     let report : length (now (s .report)) ≡ 24 = omega (arith, c .before .before .before .before .before .before .before .before .before .before .before .before .before .before .before .before .before .before .before .before .if2 .left) in
@@ -71,7 +79,7 @@ returns-3 c = let s = c .before .before .before .before .before .before .before 
       memory = turned .memory;
       pipe = turned .pipe;
       report = rw (← turned .answer, ← words .ensures) (words-whole _ (words .result) (omega (arith, six, report)) (c .before .before .put-words .ensures));
-      answer = rw (← turned .answer, ← words .ensures);
+      answer = rw (← turned .answer) (first-word _ _ (words .ensures));
     })
 
 pub turn-call-spec : {M : Type 1} → statement M

@@ -22,6 +22,9 @@ slots-of-requires c κs = search needs
 word-in-requires : tie.Need-word-in-requires
 word-in-requires c κs = search needs
 
+of-requires : tie.Need-of-requires
+of-requires c κs = search needs
+
 returns : tie.Need-returns
 unfolding decode
 returns c = cc
@@ -36,4 +39,5 @@ device-in-spec =
     ring-at-requires-4
     slots-of-requires
     word-in-requires
+    of-requires
     returns)

@@ -5,8 +5,8 @@ use borrow.Author.Needs.{needs}
 use Rattle.device.proofs.turn.emit_to.Statement.{statement}
 use Rattle.device.proofs.turn.emit_to.Tie as tie
 
-add-requires : tie.Need-add-requires
-add-requires c κs = search needs
+emitted-requires : tie.Need-emitted-requires
+emitted-requires c κs = search needs
 
 with-slot-requires : tie.Need-with-slot-requires
 with-slot-requires c κs = search needs
@@ -20,4 +20,4 @@ unfolding emitTo either
 returns-2 c = rw (c .if1 .left)
 
 pub emit-to-spec : {M : Type 1} → statement M
-emit-to-spec = tie.close (tie.spec add-requires with-slot-requires returns returns-2)
+emit-to-spec = tie.close (tie.spec emitted-requires with-slot-requires returns returns-2)

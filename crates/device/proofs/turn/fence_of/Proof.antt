@@ -5,16 +5,16 @@ use borrow.Author.Needs.{needs}
 use Rattle.device.proofs.turn.fence_of.Statement.{statement}
 use Rattle.device.proofs.turn.fence_of.Tie as tie
 
-add-requires : tie.Need-add-requires
-add-requires c κs = search needs
+emitted-requires : tie.Need-emitted-requires
+emitted-requires c κs = search needs
 
 returns : tie.Need-returns
 unfolding fenceOf either
-returns c = rw (c .before .if1 .taken) (c .add .ensures)
+returns c = rw (c .before .if1 .taken) (c .emitted .ensures)
 
 returns-2 : tie.Need-returns-2
 unfolding fenceOf either
 returns-2 c = rw (c .if1 .left)
 
 pub fence-of-spec : {M : Type 1} → statement M
-fence-of-spec = tie.close (tie.spec add-requires returns returns-2)
+fence-of-spec = tie.close (tie.spec emitted-requires returns returns-2)

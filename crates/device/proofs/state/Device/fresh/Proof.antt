@@ -16,6 +16,9 @@ fresh-ring-requires-3 c κs = search needs
 fresh-ring-requires-4 : tie.Need-fresh-ring-requires-4
 fresh-ring-requires-4 c κs = search needs
 
+of-requires : tie.Need-of-requires
+of-requires c κs = search needs
+
 returns : tie.Need-returns
 unfolding freshDevice
 returns c = cc
@@ -28,4 +31,5 @@ fresh-spec =
     fresh-ring-requires-2
     fresh-ring-requires-3
     fresh-ring-requires-4
+    of-requires
     returns)

@@ -1,8 +1,8 @@
--- `capi::calls::making_number` meets its contract. Assumes nothing.
-use Rattle.capi.specs.Calls.{makingNumber}
+-- `device::fresh::making_number` meets its contract. Assumes nothing.
+use Rattle.device.specs.Answer.{makingNumber}
 use borrow.Author.Needs.{needs}
-use Rattle.capi.proofs.calls.making_number.Statement.{statement}
-use Rattle.capi.proofs.calls.making_number.Tie as tie
+use Rattle.device.proofs.fresh.making_number.Statement.{statement}
+use Rattle.device.proofs.fresh.making_number.Tie as tie
 
 enum-told : tie.Need-enum-told
 enum-told c = search needs

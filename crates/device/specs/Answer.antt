@@ -1,0 +1,32 @@
+-- What an answer stands for: its number and the values that it reports.
+use Prim.Native.Nat.{ℕ}
+use mathlib.Core.Bool.{Bool, false}
+use Rattle.command.specs.Outcome.{outcomeNumber}
+use Rattle.device.specs.declared.fresh.Making.{Making}
+use Rattle.device.specs.declared.fresh.Making.the-variants.{Made, Refused as RefusedToMake}
+use Rattle.device.specs.declared.turn.Answer.{Answer}
+use Rattle.device.specs.declared.turn.Answer.the-variants.{Refused, Idle, Served}
+use Rattle.device.specs.Refusal.{refusalNumber}
+
+-- what is reported of a turn: ring, outcome, fence, words read, IRQ
+pub record Values : Type 0 where
+  pub ring : ℕ
+  pub outcome : ℕ
+  pub fence : ℕ
+  pub words : ℕ
+  pub irq : Bool
+
+-- 0 for ring, outcome, fence and words read, and no IRQ
+abbrev pub noValues : Values
+noValues = record { ring = 0; outcome = 0; fence = 0; words = 0; irq = false }
+
+-- an idle or refused turn reports no values
+unfoldable pub valuesOf : Answer → Values
+valuesOf (Refused why) = noValues
+valuesOf Idle = noValues
+valuesOf (Served r) = record { ring = r .ring; outcome = outcomeNumber (r .outcome); fence = r .fence; words = r .words; irq = r .irq }
+
+-- making a fresh device: 0 made, or the refusal's number
+unfoldable pub makingNumber : Making → ℕ
+makingNumber Made = 0
+makingNumber (RefusedToMake why) = refusalNumber why
