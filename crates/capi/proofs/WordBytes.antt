@@ -8,9 +8,8 @@ use native.Mathlib.Numerals.{add-one}
 use native.Mathlib.Omega.{arith}
 use lib.ListN.{length, getD, take, drop, length-drop}
 use lib.Seq.{sets, length-take-le, take-suc, take-add, drop-cons, getD-drop}
-use Rattle.words.proofs.ByteLaws.{byte-0-of-word, byte-1-of-word, byte-2-of-word, byte-3-of-word}
+use Rattle.words.proofs.ByteLaws.{word-of-its-bytes, byte-0-of-word, byte-1-of-word, byte-2-of-word, byte-3-of-word}
 use Rattle.memory.specs.Place.{wordAt, withWord}
-use Rattle.memory.proofs.Places.{word-of-bytes}
 use Rattle.capi.specs.Image.{bytesOf, wordIn, wordsIn}
 use Rattle.capi.proofs.Stores.{sets-append, sets-whole}
 
@@ -66,7 +65,7 @@ later m k =
 pub word-in-bytes : (ws : List ℕ) (k : ℕ) → k < length ws → getD ws k 0 < 2 ^ 32 → wordIn (bytesOf ws) k ≡ getD ws k 0
 unfolding bytesOf wordAt
 word-in-bytes [] k h fit = absurd (omega arith)
-word-in-bytes (w ∷ ws) zero h fit = word-of-bytes w fit
+word-in-bytes (w ∷ ws) zero h fit = word-of-its-bytes w fit
 word-in-bytes (w ∷ ws) (suc k) h fit = later (bytesOf (w ∷ ws)) k ∙ word-in-bytes ws k (omega arith) fit
 
 -- and so is each row of them

@@ -1,7 +1,7 @@
 -- What the operations give, on the values of their operands.
 use Prim.Native.Nat.{ℕ}
 use mathlib.Core.Bool.{Bool}
-use lib.Bits.{bitXor, bitOr, bitAnd}
+use Rattle.words.specs.Bitwise.{xorOf, orOf, andOf}
 use Rattle.words.specs.Arithmetic.{sum, difference, product, shiftedLeft, shiftedRight, shiftedSigned, least, greatest, magnitude}
 use Rattle.words.specs.Counts.{clzOf, ctzOf}
 use Rattle.words.specs.Compare.{same, different, atLeastSigned, belowUnsigned, atLeastUnsigned}
@@ -23,9 +23,9 @@ aluOf Lsr x y = shiftedRight x y
 aluOf Asr x y = shiftedSigned x y
 aluOf Min x y = least x y
 aluOf Max x y = greatest x y
-aluOf Xor x y = bitXor x y
-aluOf Or x y = bitOr x y
-aluOf And x y = bitAnd x y
+aluOf Xor x y = xorOf x y
+aluOf Or x y = orOf x y
+aluOf And x y = andOf x y
 
 -- one operand
 unfoldable pub unaryOf : UnaryOp → ℕ → ℕ

@@ -1,14 +1,11 @@
 -- Laws of loads and stores: the two cases, what a load depends on, and that a value fits a word.
 -- Assumes nothing.
 use mathlib.Core.Path.{_≡_}
-use mathlib.Core.Bool.{Bool, true, false, cond}
 use mathlib.Core.List.{List}
-use Prim.Native.Nat.{ℕ, _+_, _-_, _≤_, _<_, _^_}
+use Prim.Native.Nat.{ℕ, _+_, _≤_, _<_, _^_}
 use native.Mathlib.Omega.{arith}
-use lib.Dec.{ltb}
 use lib.ListN.{length, getD}
-use lib.Pow.{pow-mono}
-use Rattle.words.specs.Signed.{extended}
+use Rattle.words.proofs.WordLaws.{extended-below}
 use Rattle.memory.specs.declared.address.Reach.the-variants.{Outside}
 use Rattle.memory.specs.declared.access.Width.{Width}
 use Rattle.memory.specs.declared.access.Width.the-variants.{Byte, Half, Word}
@@ -84,16 +81,8 @@ module _ (m m′ : List ℕ) (long : length m′ ≡ length m) (a : ℕ) where
         word-same m m′ (a + 12) (λ j l u. same j (omega arith) (omega arith)),
       )
 
--- a number of at most 32 bits fits a word when its sign is extended
-pub extended-fits : (k x : ℕ) → k ≤ 32 → x < 2 ^ k → extended k x < 2 ^ 32
-extended-fits k x h small = go (ltb x (2 ^ (k - 1)))
-  where
-    go : (b : Bool) → cond b x (x + (2 ^ 32 - 2 ^ k)) < 2 ^ 32
-    go true = omega (arith, pow-mono h)
-    go false = omega (arith, pow-mono h)
-
 pub value-fits : (m : List ℕ) (width : Width) (a : ℕ) → Bytes m → valueAt m width a < 2 ^ 32
 unfolding valueAt
-value-fits m Byte a bytes = extended-fits 8 (getD m a 0) (omega arith) (bytes a)
-value-fits m Half a bytes = extended-fits 16 (halfAt m a) (omega arith) (half-fits m a bytes)
+value-fits m Byte a bytes = extended-below 8 (getD m a 0) (omega arith) (bytes a)
+value-fits m Half a bytes = extended-below 16 (halfAt m a) (omega arith) (half-fits m a bytes)
 value-fits m Word a bytes = word-fits m a bytes

@@ -1,14 +1,13 @@
 -- Laws of numbers at a place.
 -- Assumes nothing.
-use mathlib.Core.Path.{_≡_, refl, sym, _∙_}
+use mathlib.Core.Path.{_≡_, _∙_}
 use mathlib.Core.List.{List}
-use Prim.Native.Nat.{ℕ, _+_, _*_, _/_, _%_, _≤_, _<_, _^_}
-use native.Mathlib.Nat.{div-one}
+use Prim.Native.Nat.{ℕ, _+_, _≤_, _<_, _^_}
 use native.Mathlib.Omega.{arith}
 use lib.ListN.{length, getD, set, length-set}
-use lib.Pow.{shr-shr}
 use lib.Seq.{getD-set-same, getD-set-other}
-use Rattle.words.specs.Bytes.{byteOf, wordOf}
+use Rattle.words.specs.Bytes.{byteOf}
+use Rattle.words.proofs.ByteLaws.{word-of-its-bytes}
 use Rattle.memory.specs.Place.{halfAt, wordAt, withWord}
 
 -- every number of a list is a byte
@@ -22,16 +21,6 @@ half-fits m a bytes = omega (arith, bytes a, bytes (a + 1))
 pub word-fits : (m : List ℕ) (a : ℕ) → Bytes m → wordAt m a < 2 ^ 32
 unfolding wordAt
 word-fits m a bytes = omega (arith, bytes a, bytes (a + 1), bytes (a + 2), bytes (a + 3))
-
--- a number below 2 ^ 32 from its four digits of 8 bits
-digits : (v a b c : ℕ) → v < 2 ^ 32 → a ≡ v / 2 ^ 8 → b ≡ a / 2 ^ 8 → c ≡ b / 2 ^ 8
-    → v % 2 ^ 8 + a % 2 ^ 8 * 2 ^ 8 + b % 2 ^ 8 * 2 ^ 16 + c % 2 ^ 8 * 2 ^ 24 ≡ v
-digits v a b c small ha hb hc = omega arith
-
--- the bytes of a word put together again
-pub word-of-bytes : (v : ℕ) → v < 2 ^ 32 → wordOf (byteOf 0 v) (byteOf 1 v) (byteOf 2 v) (byteOf 3 v) ≡ v
-word-of-bytes v small =
-    simp div-one (digits v (v / 2 ^ 8) (v / 2 ^ 16) (v / 2 ^ 24) small refl (sym (shr-shr v 8 8)) (sym (shr-shr v 16 8)))
 
 -- a word put and read back
 pub word-read-back : (m : List ℕ) (a v : ℕ) → v < 2 ^ 32 → a + 4 ≤ length m → wordAt (withWord m a v) a ≡ v
@@ -54,4 +43,4 @@ word-read-back m a v small inside =
     ∙ getD-set-same m2 (a + 2) (byteOf 2 v) 0 (simp length-set (omega arith)) in
     let b3 : getD (withWord m a v) (a + 3) 0 ≡ byteOf 3 v =
     getD-set-same m3 (a + 3) (byteOf 3 v) 0 (simp length-set (omega arith)) in
-    rw (b0, b1, b2, b3) (word-of-bytes v small)
+    rw (b0, b1, b2, b3) (word-of-its-bytes v small)

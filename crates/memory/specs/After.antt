@@ -1,4 +1,4 @@
--- One thing done again and again: the combinator of every loop.
+-- One thing done again and again: the combinator of every loop that changes a window or a state.
 use Prim.Native.Nat.{ℕ, zero, suc}
 
 -- m after turns 0, 1, .., n - 1 of f, in that order

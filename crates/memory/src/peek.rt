@@ -1,6 +1,5 @@
 // Reading lent bytes of any length: a byte past the end reads 0.
 ghost use mathlib.Core.Path.{_≡_};
-ghost use Prim.Native.Nat.{_<_, _^_};
 ghost use lib.ListN.{getD};
 ghost use Rattle.memory.specs.Place.{wordAt};
 use words::bytes::word;
@@ -12,11 +11,14 @@ pub fn peek_byte(bytes: &[u8], at: usize) -> u8
 }
 
 pub fn peek_word(bytes: &[u8], at: usize) -> u32
-    requires { ⌜ at < 2 ^ 63 ⌝ }
     ensures { λ r. ⌜ r ≡ wordAt (now (bytes .entry)) at ⌝ }
 {
+    // Past the end there is nothing to add up.
+    if bytes.len() <= at {
+        return 0;
+    }
     word(
-        peek_byte(bytes, at),
+        bytes[at],
         peek_byte(bytes, at + 1),
         peek_byte(bytes, at + 2),
         peek_byte(bytes, at + 3),

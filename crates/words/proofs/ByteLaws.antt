@@ -5,7 +5,7 @@ use Prim.Native.Nat.{ℕ, _+_, _*_, _%_, _^_, _<_}
 use native.Mathlib.Nat.{div-one, mod-eq-of-lt}
 use native.Mathlib.Omega.{arith}
 use Rattle.words.specs.Bytes.{halfOf, wordOf, byteOf}
-use Rattle.words.specs.Halves.{wordOfHalves, halfAt}
+use Rattle.words.specs.Halves.{wordOfHalves, wordHalf}
 use Rattle.words.proofs.LaneLaws.{one-lane-more}
 
 pub word-of-its-bytes : (w : ℕ) → w < 2 ^ 32 → wordOf (byteOf 0 w) (byteOf 1 w) (byteOf 2 w) (byteOf 3 w) ≡ w
@@ -16,7 +16,7 @@ word-of-its-bytes w h =
     added : (w b0 b1 b2 b3 m n : ℕ) → w ≡ b3 * 2 ^ 24 + n → n ≡ b2 * 2 ^ 16 + m → m ≡ b1 * 2 ^ 8 + b0 → wordOf b0 b1 b2 b3 ≡ w
     added w b0 b1 b2 b3 m n p q r = omega arith
 
-pub word-of-its-halves : (w : ℕ) → w < 2 ^ 32 → wordOfHalves (halfAt 0 w) (halfAt 1 w) ≡ w
+pub word-of-its-halves : (w : ℕ) → w < 2 ^ 32 → wordOfHalves (wordHalf 0 w) (wordHalf 1 w) ≡ w
 word-of-its-halves w h = omega (arith, one-lane-more 16 1 w)
 
 pub half-of-its-bytes : (w : ℕ) → w < 2 ^ 16 → halfOf (byteOf 0 w) (byteOf 1 w) ≡ w
@@ -52,8 +52,8 @@ module _ {l0 l1 : ℕ} (h0 : l0 < 2 ^ 16) (h1 : l1 < 2 ^ 16) where
   pub word-of-halves-below : wordOfHalves l0 l1 < 2 ^ 32
   word-of-halves-below = omega arith
 
-  pub half-0-of-word : halfAt 0 (wordOfHalves l0 l1) ≡ l0
+  pub half-0-of-word : wordHalf 0 (wordOfHalves l0 l1) ≡ l0
   half-0-of-word = omega arith
 
-  pub half-1-of-word : halfAt 1 (wordOfHalves l0 l1) ≡ l1
+  pub half-1-of-word : wordHalf 1 (wordOfHalves l0 l1) ≡ l1
   half-1-of-word = omega arith

@@ -6,7 +6,7 @@ use native.Mathlib.Nat.{mod-eq-of-lt, div-one}
 use native.Mathlib.Omega.{arith}
 use lib.Bits.{bitXor, bitAnd, bitOr, xor-lt, and-lt, or-lt}
 use Rattle.words.specs.Bytes.{wordOf, byteOf}
-use Rattle.words.specs.Halves.{wordOfHalves, halfAt}
+use Rattle.words.specs.Halves.{wordOfHalves, wordHalf}
 use Rattle.words.specs.Lanes.{lane, lanewise, laneBits, laneCount, laneOf, lanesOf}
 use Rattle.words.specs.declared.lanes.LaneOp.{LaneOp}
 use Rattle.words.specs.declared.lanes.LaneOp.the-variants.{Add, Sub, Xor, And, Or, Mul}
@@ -85,7 +85,7 @@ module _ (op : LaneOp) (a b : ℕ) where
   unfolding lanesOf lanewise
   lanesOf-i32 ha hb = simp (div-one, mod-eq-of-lt ha, mod-eq-of-lt hb) (omega arith)
 
-  pub lanesOf-i16 : lanesOf op I16 a b ≡ wordOfHalves (laneOf op I16 (halfAt 0 a) (halfAt 0 b)) (laneOf op I16 (halfAt 1 a) (halfAt 1 b))
+  pub lanesOf-i16 : lanesOf op I16 a b ≡ wordOfHalves (laneOf op I16 (wordHalf 0 a) (wordHalf 0 b)) (laneOf op I16 (wordHalf 1 a) (wordHalf 1 b))
   unfolding lanesOf lanewise
   lanesOf-i16 = omega arith
 

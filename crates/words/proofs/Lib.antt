@@ -9,3 +9,4 @@ pub mod SignedShift
 pub mod ByteLaws
 pub mod ArithmeticLaws
 pub mod WordLaws
+pub mod BitwiseLaws

@@ -6,27 +6,35 @@ use Rattle.words.specs.Signed.{extended}
 abbrev pub field : ℕ → ℕ → ℕ → ℕ
 field k n w = w / 2 ^ k % 2 ^ n
 
+-- bits 6..0
 abbrev pub opcodeOf : ℕ → ℕ
 opcodeOf w = field 0 7 w
 
+-- bits 11..7
 abbrev pub rdOf : ℕ → ℕ
 rdOf w = field 7 5 w
 
+-- bits 14..12
 abbrev pub funct3Of : ℕ → ℕ
 funct3Of w = field 12 3 w
 
+-- bits 19..15
 abbrev pub rs1Of : ℕ → ℕ
 rs1Of w = field 15 5 w
 
+-- bits 24..20
 abbrev pub rs2Of : ℕ → ℕ
 rs2Of w = field 20 5 w
 
+-- bits 31..25
 abbrev pub funct7Of : ℕ → ℕ
 funct7Of w = field 25 7 w
 
+-- bits 31..26
 abbrev pub funct6Of : ℕ → ℕ
 funct6Of w = field 26 6 w
 
+-- bit 25
 abbrev pub bit25Of : ℕ → ℕ
 bit25Of w = field 25 1 w
 

@@ -6,5 +6,5 @@ abbrev pub wordOfHalves : ℕ → ℕ → ℕ
 wordOfHalves h0 h1 = h0 + h1 * 2 ^ 16
 
 -- half k of a word, 0 the lowest
-abbrev pub halfAt : ℕ → ℕ → ℕ
-halfAt k w = w / 2 ^ (16 * k) % 2 ^ 16
+abbrev pub wordHalf : ℕ → ℕ → ℕ
+wordHalf k w = w / 2 ^ (16 * k) % 2 ^ 16

@@ -1,7 +1,7 @@
 -- One operation on the lanes of a word, lane 0 lowest.
 use Prim.Native.Nat.{ℕ, zero, suc, _+_, _*_, _/_, _%_, _^_}
-use lib.Bits.{bitXor, bitAnd, bitOr}
 use Rattle.words.specs.Arithmetic.{sum, difference, product}
+use Rattle.words.specs.Bitwise.{xorOf, orOf, andOf}
 use Rattle.words.specs.declared.lanes.LaneOp.{LaneOp}
 use Rattle.words.specs.declared.lanes.LaneOp.the-variants.{Add, Sub, Xor, And, Or, Mul}
 use Rattle.words.specs.declared.lanes.LaneType.{LaneType}
@@ -29,9 +29,9 @@ laneCount ty = 32 / laneBits ty
 abbrev pub laneOf : LaneOp → LaneType → ℕ → ℕ → ℕ
 laneOf Add ty a b = sum (laneBits ty) a b
 laneOf Sub ty a b = difference (laneBits ty) a b
-laneOf Xor ty a b = bitXor a b
-laneOf And ty a b = bitAnd a b
-laneOf Or ty a b = bitOr a b
+laneOf Xor ty a b = xorOf a b
+laneOf And ty a b = andOf a b
+laneOf Or ty a b = orOf a b
 laneOf Mul ty a b = product (laneBits ty) a b
 
 -- the operation on two words of lanes

@@ -6,3 +6,4 @@ pub mod Arithmetic
 pub mod Compare
 pub mod Counts
 pub mod Lanes
+pub mod Bitwise

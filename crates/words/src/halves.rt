@@ -1,6 +1,6 @@
 // The two halves of a word, and the word of two halves.
 ghost use mathlib.Core.Path.{_≡_};
-ghost use Rattle.words.specs.Halves.{halfAt, wordOfHalves};
+ghost use Rattle.words.specs.Halves.{wordHalf, wordOfHalves};
 
 pub struct WordHalves {
     pub h0: u16,
@@ -14,7 +14,7 @@ pub fn word_of_halves(h0: u16, h1: u16) -> u32
 }
 
 pub fn word_halves(w: u32) -> WordHalves
-    ensures { λ r. ⌜ r ≡ record { h0 = halfAt 0 w; h1 = halfAt 1 w } ⌝ }
+    ensures { λ r. ⌜ r ≡ record { h0 = wordHalf 0 w; h1 = wordHalf 1 w } ⌝ }
 {
     WordHalves {
         h0: (w % 0x1_0000) as u16,
