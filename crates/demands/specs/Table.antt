@@ -15,7 +15,7 @@ use Rattle.instruction.specs.declared.effect.Stop.the-variants.{OutsideTheWindo
 use Rattle.instruction.specs.Decode.{opOf}
 use Rattle.kernel.specs.declared.dispatch.Ran.the-variants.{Stopped}
 use Rattle.kernel.specs.Dispatch.{dispatchOf}
-use Rattle.kernel.proofs.Examples.{freshThread, afterWord, scalar, packOf}
+use Rattle.kernel.specs.Examples.{freshThread, afterWord, scalar, packOf}
 use Rattle.command.specs.declared.outcome.Outcome.{Outcome}
 use Rattle.command.specs.declared.outcome.Outcome.the-variants.{NoFrame, OutsideTheWindow}
 use Rattle.command.specs.declared.frame.Frame.the-variants.{Held}

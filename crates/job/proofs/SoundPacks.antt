@@ -10,13 +10,13 @@ use borrow.Author.Tests.{le-leb, eq-eqb}
 use Rattle.memory.specs.Place.{wordAt}
 use Rattle.memory.specs.Window.{windowOf}
 use Rattle.memory.proofs.Window.{window-byte, window-length}
-use Rattle.kernel.specs.Pack.{kernelCount, codeCount, allLie, soundPack}
+use Rattle.kernel.specs.Pack.{kernelCount, firstWord, kernelWords, codeCount, allLie, soundPack}
 use Rattle.kernel.specs.Pack as pack
 use Rattle.job.specs.declared.parse.Parsed.the-variants.{Accepted}
 use Rattle.job.specs.declared.parts.Job.{Job}
 use Rattle.job.specs.Section.{sectionAt}
 use Rattle.job.specs.Sections.{sectionsOf, kernelsOf, codeOf}
-use Rattle.job.specs.Kernels.{firstWord, kernelWords, hasWord, liesInCode, allBelow}
+use Rattle.job.specs.Kernels.{hasWord, liesInCode, allBelow}
 use Rattle.job.specs.Parts.{bytesOf, jobOf}
 use Rattle.job.specs.Parse.{partsOf}
 use Rattle.job.proofs.Accepted.{Checked, checked}
@@ -52,9 +52,9 @@ module _ (input : List ℕ) (at K N : ℕ) (isK : wordAt input at ≡ K) (isN : 
   code-count = rw kernel-count (word (4 + 8 * K) (at + 4 + 8 * K) (omega arith) (omega arith) ∙ isN)
 
   lies : (k : ℕ) → k < K → hasWord input (at + 4) k ≡ true → liesInCode input (at + 4) N k ≡ true → pack.liesInCode (packAt input at K N) k ≡ true
-  unfolding hasWord liesInCode pack.liesInCode pack.firstWord pack.kernelWords
+  unfolding hasWord liesInCode pack.liesInCode firstWord kernelWords
   lies k b has inside =
-      rw (word (4 + 8 * k) (at + 4 + 8 * k) (omega arith) (omega arith), word (8 + 8 * k) (at + 4 + 8 * k + 4) (omega arith) (omega arith), code-count)
+      rw (word (4 + 8 * k) (at + 4 + 8 * k) (omega arith) (omega arith), word (4 + 8 * k + 4) (at + 4 + 8 * k + 4) (omega arith) (omega arith), code-count)
       (both _ _ has inside)
 
   all-lie : (n : ℕ) → n ≤ K → allBelow (hasWord input (at + 4)) n ≡ true → allBelow (liesInCode input (at + 4) N) n ≡ true → allLie (packAt input at K N) n ≡ true

@@ -1,18 +1,11 @@
 -- The pairs of section 6: each kernel's first word and words.
-use Prim.Native.Nat.{ℕ, zero, suc, _+_, _*_}
+use Prim.Native.Nat.{ℕ, zero, suc, _+_}
 use mathlib.Core.Bool.{Bool, true, _&&_}
 use mathlib.Core.List.{List}
 use lib.Dec.{leb}
-use Rattle.memory.specs.Place.{wordAt}
+use Rattle.kernel.specs.Pack.{firstWord, kernelWords}
 
--- kernel k of the pairs from `start` on
-abbrev pub firstWord : List ℕ → ℕ → ℕ → ℕ
-firstWord input start k = wordAt input (start + 8 * k)
-
-abbrev pub kernelWords : List ℕ → ℕ → ℕ → ℕ
-kernelWords input start k = wordAt input (start + 8 * k + 4)
-
--- it has a word
+-- kernel k of the pairs from `start` on has a word
 unfoldable pub hasWord : List ℕ → ℕ → ℕ → Bool
 hasWord input start k = leb 1 (kernelWords input start k)
 

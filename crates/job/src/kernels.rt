@@ -2,7 +2,8 @@
 ghost use mathlib.Core.Path.{_≡_};
 ghost use Prim.Native.Nat.{_≤_, _^_};
 ghost use Rattle.job.specs.Kernels.{hasWord, liesInCode, allBelow};
-use memory::peek::peek_word;
+use kernel::pack::first_word;
+use kernel::pack::kernel_words;
 use words::choice::both;
 
 // Kernel k of the pairs from `start` on has a word.
@@ -10,8 +11,7 @@ fn has_word(input: &[u8], start: usize, k: u32) -> bool
     requires { ⌜ start ≤ 2 ^ 40 ⌝ }
     ensures { λ r. ⌜ r ≡ hasWord (now (input .entry)) start k ⌝ }
 {
-    let words = peek_word(input, start + 8 * k as usize + 4);
-    1 <= words
+    1 <= kernel_words(input, start, k)
 }
 
 // Kernel k of the pairs from `start` on lies in `code` words.
@@ -19,8 +19,8 @@ fn lies_in_code(input: &[u8], start: usize, code: u32, k: u32) -> bool
     requires { ⌜ start ≤ 2 ^ 40 ⌝ }
     ensures { λ r. ⌜ r ≡ liesInCode (now (input .entry)) start code k ⌝ }
 {
-    let first = peek_word(input, start + 8 * k as usize) as usize;
-    let words = peek_word(input, start + 8 * k as usize + 4) as usize;
+    let first = first_word(input, start, k) as usize;
+    let words = kernel_words(input, start, k) as usize;
     first + words <= code as usize
 }
 

@@ -2,7 +2,7 @@
 -- Assumes nothing.
 use mathlib.Core.Path.{_≡_, refl, _∙_}
 use mathlib.Core.Bool.{true}
-use mathlib.Core.List.{List, [], _∷_}
+use mathlib.Core.List.{List}
 use Prim.Native.Nat.{ℕ, zero, suc, _*_, _^_, _≤_, _<_}
 use native.Mathlib.Numerals.{add-one}
 use borrow.Author.Tests.{lt-leb}
@@ -14,7 +14,6 @@ use Rattle.words.specs.declared.lanes.LaneType.the-variants.{I16, I8}
 use Rattle.words.specs.Lanes.{lanesOf, lanewise}
 use Rattle.words.specs.Counts.{firstSet}
 use Rattle.words.specs.Arithmetic.{magnitude}
-use Rattle.words.specs.Bytes.{byteOf}
 use Rattle.memory.specs.Address.{ifInside}
 use Rattle.memory.specs.Place.{wordAt}
 use Rattle.memory.specs.Access.{bytesOf}
@@ -36,54 +35,36 @@ use Rattle.kernel.specs.Pack.{kernelCount, firstWord, kernelWords, codeC
 use Rattle.kernel.specs.Registers.{scalarOf, withScalar, startRegisters}
 use Rattle.kernel.specs.Thread.{started, written, advanced, movedTo}
 use Rattle.kernel.specs.Step.{stops, goesOn, lands, branched, afterStore, applied, executed, stepOf}
-use Rattle.kernel.specs.Run.{running, stepsOf}
+use Rattle.kernel.specs.Run.{stepLimit, running, stepsOf}
 use Rattle.kernel.specs.Dispatch.{ranOf, shown, dispatchOf}
+use Rattle.kernel.specs.Examples.{freshThread, afterWord, scalar, packOf}
 use Rattle.kernel.proofs.Runs.{no-step}
 use Rattle.kernel.proofs.Steps.{at-the-limit}
 use Rattle.kernel.proofs.StepByStep.{more-running, one-more}
 use Rattle.kernel.proofs.Stopping.{stopped-run}
 use Rattle.kernel.proofs.Threads.{first-stops}
 
--- a thread at its start, alone in its dispatch
-abbrev pub freshThread : Thread
-freshThread = started 0 0 1 1
-
--- a thread after one instruction
-unfoldable pub afterWord : ℕ → Thread → Thread
-unfolding started startRegisters executed decoded opOf immediateRow scalarRow plainRow countRow effectOf aluOf unaryOf magnitude firstSet applied goesOn advanced movedTo written withScalar scalarOf
-afterWord w t = executed 4 (decoded w) t [] .stepped .thread
-
--- what scalar register n of a thread reads
-abbrev pub scalar : ℕ → Thread → ℕ
-scalar n t = scalarOf (t .registers) n
-
 -- FFF00297 (ADDI s5, s0, -1): 4,294,967,295
 pub p4 : (opOf 0xFFF00297 ≡ AluImm Add 4294967295) × (scalar 5 (afterWord 0xFFF00297 freshThread) ≡ 4294967295)
-unfolding afterWord
+unfolding afterWord started startRegisters executed decoded opOf immediateRow effectOf aluOf applied goesOn advanced movedTo written withScalar scalarOf
 p4 = (refl, refl)
 
 -- then 0052830B (ADD s6, s5, s5): 4,294,967,294
 pub p5 : (opOf 0x0052830B ≡ Alu Add) × (scalar 6 (afterWord 0x0052830B (afterWord 0xFFF00297 freshThread)) ≡ 4294967294)
-unfolding afterWord
+unfolding afterWord started startRegisters executed decoded opOf immediateRow scalarRow plainRow effectOf aluOf applied goesOn advanced movedTo written withScalar scalarOf
 p5 = (refl, refl)
 
 -- 0002930B is ABS, here of s5 to s6: 1
 pub p6 : (opOf 0x0002930B ≡ Unary Abs) × (scalar 6 (afterWord 0x0002930B (afterWord 0xFFF00297 freshThread)) ≡ 1)
-unfolding afterWord
+unfolding afterWord started startRegisters executed decoded opOf immediateRow scalarRow plainRow effectOf aluOf unaryOf magnitude applied goesOn advanced movedTo written withScalar scalarOf
 p6 = (refl, refl)
 
 -- 0600030B (CLZ of s0), here to s6: 32
 pub p7 : (opOf 0x0600030B ≡ Unary Clz) × (scalar 6 (afterWord 0x0600030B freshThread) ≡ 32)
-unfolding afterWord
+unfolding afterWord started startRegisters executed decoded opOf scalarRow countRow effectOf unaryOf firstSet applied goesOn advanced movedTo written withScalar scalarOf
 p7 = (refl, refl)
 
--- the pack of one kernel of one word
-abbrev pub packOf : ℕ → List ℕ
-packOf w =
-    1 ∷ 0 ∷ 0 ∷ 0 ∷ 0 ∷ 0 ∷ 0 ∷ 0 ∷ 1 ∷ 0 ∷ 0 ∷ 0 ∷ 1 ∷ 0 ∷ 0 ∷ 0
-    ∷ byteOf 0 w ∷ byteOf 1 w ∷ byteOf 2 w ∷ byteOf 3 w ∷ []
-
--- it is not faulty
+-- the pack of one kernel of one word is not faulty
 pub pack-of-sound : (w : ℕ) → soundPack (packOf w) ≡ true
 unfolding soundPack kernelCount codeCount allLie liesInCode firstWord kernelWords wordAt
 pack-of-sound w = refl
@@ -94,18 +75,18 @@ theKernel = record { start = 16; length = 4 }
 
 module _ (groups threads : ℕ) (window : List ℕ) where
   -- a dispatch whose first thread is stopped by a step that finds the window as it was
-  stopped : (w n : ℕ) (t : Thread) (why : Stop) → 1 ≤ groups → 1 ≤ threads → n ≤ 4096
-      → stepsOf n 4096 (packOf w) theKernel (started 0 0 threads groups) window ≡ running t window
-      → stepOf 4096 (packOf w) theKernel t window .stepped .progress ≡ Stopped why
-      → dispatchOf 4096 (packOf w) 0 groups threads window ≡ record { ran = StoppedFor why; window = window }
+  stopped : (w n : ℕ) (t : Thread) (why : Stop) → 1 ≤ groups → 1 ≤ threads → n ≤ stepLimit
+      → stepsOf n stepLimit (packOf w) theKernel (started 0 0 threads groups) window ≡ running t window
+      → stepOf stepLimit (packOf w) theKernel t window .stepped .progress ≡ Stopped why
+      → dispatchOf stepLimit (packOf w) 0 groups threads window ≡ record { ran = StoppedFor why; window = window }
   unfolding dispatchOf shown ranOf stops kernelOf kernelCount firstWord kernelWords wordAt
   stopped w n t why hg ht h e stop =
-      let run = stopped-run 4096 (packOf w) theKernel (started 0 0 threads groups) window n t window why h e stop in
-      first-stops 4096 (packOf w) theKernel groups threads window (groups * threads) why (mul-pos hg ht) (rw run) ∙ (rw run)
+      let run = stopped-run stepLimit (packOf w) theKernel (started 0 0 threads groups) window n t window why h e stop in
+      first-stops stepLimit (packOf w) theKernel groups threads window (groups * threads) why (mul-pos hg ht) (rw run) ∙ (rw run)
 
   -- FE502E0D (SW at -4 from s0): 13, and nothing is stored
   pub p8 : 1 ≤ groups → 1 ≤ threads → ListN.length window < 2 ^ 32
-      → dispatchOf 4096 (packOf 0xFE502E0D) 0 groups threads window ≡ record { ran = StoppedFor OutsideTheWindow; window = window }
+      → dispatchOf stepLimit (packOf 0xFE502E0D) 0 groups threads window ≡ record { ran = StoppedFor OutsideTheWindow; window = window }
   unfolding started stepOf executed decoded opOf storeRow effectOf applied afterStore bytesOf scalarOf ifInside stops wordAt
   p8 hg ht small =
       stopped 0xFE502E0D 0 (started 0 0 threads groups) OutsideTheWindow hg ht (omega arith) (no-step _ _ _ _ _)
@@ -129,11 +110,11 @@ module _ (groups threads : ℕ) (window : List ℕ) where
 
   -- 0000000E branches to itself: 14
   pub p9 : 1 ≤ groups → 1 ≤ threads
-      → dispatchOf 4096 (packOf 0x0000000E) 0 groups threads window ≡ record { ran = StoppedFor OutOfSteps; window = window }
+      → dispatchOf stepLimit (packOf 0x0000000E) 0 groups threads window ≡ record { ran = StoppedFor OutOfSteps; window = window }
   unfolding started stops
   p9 hg ht =
-      stopped 0x0000000E 4096 (spun 4096) OutOfSteps hg ht (omega arith) (spins 4096 4096 (omega arith))
-      (rw (at-the-limit 4096 (packOf 0x0000000E) theKernel (spun 4096) window (omega arith)))
+      stopped 0x0000000E stepLimit (spun stepLimit) OutOfSteps hg ht (omega arith) (spins stepLimit stepLimit (omega arith))
+      (rw (at-the-limit stepLimit (packOf 0x0000000E) theKernel (spun stepLimit) window (omega arith)))
 
 -- VADD.I8 of 010000FF and 01000001: 02000000; as I16: 02000100
 pub p10 : (lanesOf VAdd I8 0x010000FF 0x01000001 ≡ 0x02000000) × (lanesOf VAdd I16 0x010000FF 0x01000001 ≡ 0x02000100)

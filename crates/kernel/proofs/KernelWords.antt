@@ -6,14 +6,13 @@ use mathlib.Core.Logic.{_⊎_, inl, inr}
 use Prim.Native.Nat.{ℕ, zero, suc, _+_, _*_, _/_, _%_, _≤_, _<_}
 use native.Mathlib.Omega.{arith}
 use Rattle.words.proofs.Order.{lt-or-ge}
-use Rattle.memory.specs.Place.{wordAt}
 use Rattle.memory.specs.After.{after}
 use Rattle.memory.proofs.After.{after-agree}
 use Rattle.kernel.specs.declared.pack.Kernel.{Kernel}
 use Rattle.kernel.specs.declared.thread.Thread.{Thread}
 use Rattle.kernel.specs.declared.step.Progress.{Progress}
 use Rattle.kernel.specs.declared.step.Progress.the-variants.{Running, Ended, Stopped}
-use Rattle.kernel.specs.Pack.{kernelOf}
+use Rattle.kernel.specs.Pack.{kernelOf, codeWord}
 use Rattle.kernel.specs.Thread.{started, movedTo, advanced}
 use Rattle.kernel.specs.Step.{stops, goesOn, ends, branched, stepOf}
 use Rattle.kernel.specs.Run.{ifRunning, stepMore, running, stepsOf, runOf}
@@ -46,7 +45,7 @@ module _ (limit : ℕ) (pack : List ℕ) (kernel : Kernel) where
 pub record SameWords (pack₁ : List ℕ) (kernel₁ : Kernel) (pack₂ : List ℕ) (kernel₂ : Kernel) : Type 0 where
   pub length : kernel₁ .length ≡ kernel₂ .length
   pub words : (place : ℕ) → place < kernel₁ .length → place % 4 ≡ 0
-      → wordAt pack₁ (kernel₁ .start + place) ≡ wordAt pack₂ (kernel₂ .start + place)
+      → codeWord pack₁ kernel₁ place ≡ codeWord pack₂ kernel₂ place
 
 module _ (limit : ℕ) (pack₁ : List ℕ) (kernel₁ : Kernel) (pack₂ : List ℕ) (kernel₂ : Kernel) (same : SameWords pack₁ kernel₁ pack₂ kernel₂) where
   -- the same step

@@ -6,7 +6,6 @@ use mathlib.Core.Logic.{_↔_}
 use Prim.Native.Nat.{ℕ, zero, suc, _+_, _≤_, _<_}
 use native.Mathlib.Omega.{arith}
 use Rattle.memory.specs.After.{after}
-use Rattle.memory.specs.Place.{wordAt}
 use Rattle.instruction.specs.declared.list.Op.the-variants.{Wfi}
 use Rattle.instruction.specs.declared.effect.Stop.the-variants.{OutOfSteps}
 use Rattle.instruction.specs.Decode.{opOf, decoded}
@@ -15,6 +14,7 @@ use Rattle.kernel.specs.declared.pack.Kernel.{Kernel}
 use Rattle.kernel.specs.declared.thread.Thread.{Thread}
 use Rattle.kernel.specs.declared.step.Progress.{Progress}
 use Rattle.kernel.specs.declared.step.Progress.the-variants.{Running, Ended, Stopped}
+use Rattle.kernel.specs.Pack.{codeWord}
 use Rattle.kernel.specs.Step.{State, stops, ends, applied, executed, stepOf}
 use Rattle.kernel.specs.Run.{ifRunning, stepMore, running, stepsOf, runOf}
 use Rattle.kernel.proofs.Runs.{one-step-more, run-rests, ended-rests, stopped-rests}
@@ -112,7 +112,7 @@ module _ (limit : ℕ) (pack : List ℕ) (kernel : Kernel) where
 
       -- a WFI that is step number limit ends the thread, and 14 is not given
       pub wfi-at-the-limit : (n : ℕ) (t′ : Thread) (window′ : List ℕ) → n + 1 ≡ limit → state n ≡ running t′ window′
-          → t′ .place < kernel .length → opOf (wordAt pack (kernel .start + t′ .place)) ≡ Wfi
+          → t′ .place < kernel .length → opOf (codeWord pack kernel (t′ .place)) ≡ Wfi
           → end ≡ record { stepped = ends t′; window = window′ }
       unfolding running executed decoded effectOf applied ends
       wfi-at-the-limit n t′ window′ h e on wfi =

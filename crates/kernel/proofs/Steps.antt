@@ -18,7 +18,6 @@ use Rattle.memory.specs.declared.address.Reach.the-variants.{Inside, Outside}
 use Rattle.memory.specs.Address.{reachOf, ifInside}
 use Rattle.memory.specs.Access.{bytesOf, withValue, storeOf}
 use Rattle.memory.specs.Quad.{withQuad, storeQuadOf}
-use Rattle.memory.specs.Place.{wordAt}
 use Rattle.instruction.specs.declared.effect.Stop.{Stop}
 use Rattle.instruction.specs.declared.effect.Stop.the-variants.{OffTheKernel, OutsideTheWindow, OutOfSteps}
 use Rattle.instruction.specs.declared.effect.Effect.{Effect}
@@ -29,6 +28,7 @@ use Rattle.kernel.specs.declared.pack.Kernel.{Kernel}
 use Rattle.kernel.specs.declared.thread.Thread.{Thread}
 use Rattle.kernel.specs.declared.step.Progress.{Progress}
 use Rattle.kernel.specs.declared.step.Progress.the-variants.{Running, Ended, Stopped}
+use Rattle.kernel.specs.Pack.{codeWord}
 use Rattle.kernel.specs.Thread.{written, writtenVector, movedTo, advanced}
 use Rattle.kernel.specs.Step.{State, stops, goesOn, ends, lands, branched, afterStore, applied, executed, stepOf}
 
@@ -113,7 +113,7 @@ module _ (limit : ℕ) (pack : List ℕ) (kernel : Kernel) (t : Thread) (window 
 
   -- any other does the instruction at its place
   pub instruction-done : t .steps < limit → t .place < kernel .length
-      → stepOf limit pack kernel t window ≡ executed (kernel .length) (decoded (wordAt pack (kernel .start + t .place))) t window
+      → stepOf limit pack kernel t window ≡ executed (kernel .length) (decoded (codeWord pack kernel (t .place))) t window
   unfolding stepOf
   instruction-done h on = simp (lt-leb limit (t .steps) h, lt-leb (kernel .length) (t .place) on)
 

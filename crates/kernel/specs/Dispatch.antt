@@ -29,6 +29,7 @@ ranOf Running = Done
 ranOf Ended = Done
 ranOf (Stopped why) = StoppedFor why
 
+-- what a dispatch sees of a thread's state
 unfoldable pub shown : State → Dispatched
 shown s = record { ran = ranOf (s .stepped .progress); window = s .window }
 

@@ -4,3 +4,4 @@ pub mod Thread
 pub mod Step
 pub mod Run
 pub mod Dispatch
+pub mod Examples

@@ -11,20 +11,27 @@ use Rattle.kernel.specs.declared.pack.Kernel.{Kernel}
 unfoldable pub kernelCount : List ℕ → ℕ
 kernelCount pack = wordAt pack 0
 
--- the K pairs: first word, words
-unfoldable pub firstWord : List ℕ → ℕ → ℕ
-firstWord pack k = wordAt pack (4 + 8 * k)
+-- where a pack's K pairs start
+abbrev pub pairsStart : ℕ
+pairsStart = 4
 
-unfoldable pub kernelWords : List ℕ → ℕ → ℕ
-kernelWords pack k = wordAt pack (8 + 8 * k)
+-- the first word of kernel k, by the pairs (first word, words) from `start` on
+unfoldable pub firstWord : List ℕ → ℕ → ℕ → ℕ
+firstWord bytes start k = wordAt bytes (start + 8 * k)
+
+-- its words
+unfoldable pub kernelWords : List ℕ → ℕ → ℕ → ℕ
+kernelWords bytes start k = wordAt bytes (start + 8 * k + 4)
 
 -- count N
 unfoldable pub codeCount : List ℕ → ℕ
-codeCount pack = wordAt pack (4 + 8 * kernelCount pack)
+codeCount pack = wordAt pack (pairsStart + 8 * kernelCount pack)
 
 -- kernel k has at least one word and lies in the code
 unfoldable pub liesInCode : List ℕ → ℕ → Bool
-liesInCode pack k = leb 1 (kernelWords pack k) && leb (firstWord pack k + kernelWords pack k) (codeCount pack)
+liesInCode pack k =
+    leb 1 (kernelWords pack pairsStart k)
+    && leb (firstWord pack pairsStart k + kernelWords pack pairsStart k) (codeCount pack)
 
 -- each of the first n kernels does
 unfoldable pub allLie : List ℕ → ℕ → Bool
@@ -41,4 +48,8 @@ soundPack pack =
 -- the bytes of kernel k
 unfoldable pub kernelOf : List ℕ → ℕ → Kernel
 kernelOf pack k =
-    record { start = 8 + 8 * kernelCount pack + 4 * firstWord pack k; length = 4 * kernelWords pack k }
+    record { start = 8 + 8 * kernelCount pack + 4 * firstWord pack pairsStart k; length = 4 * kernelWords pack pairsStart k }
+
+-- the code word at a place of a kernel, in bytes from the kernel's start
+abbrev pub codeWord : List ℕ → Kernel → ℕ → ℕ
+codeWord pack kernel place = wordAt pack (kernel .start + place)

@@ -1,4 +1,4 @@
--- The register file. The definitions go by number and know no count of registers.
+-- The register file: it starts with 32 of each kind. A register is read and written by number, whatever their count.
 use Prim.Native.Nat.{ℕ, _%_, _^_}
 use mathlib.Core.Bool.{cond}
 use lib.ListN.{getD, set, replicate}

@@ -10,7 +10,6 @@ use Rattle.memory.specs.declared.address.Reach.{Reach}
 use Rattle.memory.specs.Address.{reachOf, ifInside}
 use Rattle.memory.specs.Access.{bytesOf, storeOf}
 use Rattle.memory.specs.Quad.{storeQuadOf}
-use Rattle.memory.specs.Place.{wordAt}
 use Rattle.instruction.specs.declared.list.Instr.{Instr}
 use Rattle.instruction.specs.declared.effect.Stop.{Stop}
 use Rattle.instruction.specs.declared.effect.Stop.the-variants.{OffTheKernel, OutsideTheWindow, OutOfSteps}
@@ -22,6 +21,7 @@ use Rattle.kernel.specs.declared.pack.Kernel.{Kernel}
 use Rattle.kernel.specs.declared.thread.Thread.{Thread}
 use Rattle.kernel.specs.declared.step.Stepped.{Stepped}
 use Rattle.kernel.specs.declared.step.Progress.the-variants.{Running, Ended, Stopped}
+use Rattle.kernel.specs.Pack.{codeWord}
 use Rattle.kernel.specs.Registers.{scalarOf}
 use Rattle.kernel.specs.Thread.{written, writtenVector, movedTo, advanced}
 
@@ -90,4 +90,4 @@ unfoldable pub stepOf : ℕ → List ℕ → Kernel → Thread → List ℕ → 
 stepOf limit pack kernel t window =
     cond (leb limit (t .steps)) (record { stepped = stops OutOfSteps t; window = window })
     (cond (leb (kernel .length) (t .place)) (record { stepped = stops OffTheKernel t; window = window })
-    (executed (kernel .length) (decoded (wordAt pack (kernel .start + t .place))) t window))
+    (executed (kernel .length) (decoded (codeWord pack kernel (t .place))) t window))

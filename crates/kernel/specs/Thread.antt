@@ -2,13 +2,18 @@
 use Prim.Native.Nat.{ℕ, _+_}
 use Rattle.words.specs.Arithmetic.{sum}
 use Rattle.memory.specs.declared.quad.Quad.{Quad}
-use Rattle.kernel.specs.Registers.{startRegisters, withScalar, withVector}
+use Rattle.kernel.specs.Registers.{startRegisters, scalarOf, withScalar, withVector}
 use Rattle.kernel.specs.declared.thread.Thread.{Thread}
+use Rattle.kernel.specs.declared.thread.Reading.{Reading}
 
 -- a thread's start: the first instruction, no step taken
 unfoldable pub started : ℕ → ℕ → ℕ → ℕ → Thread
 started group thread threads groups =
     record { registers = startRegisters group thread threads groups; place = 0; steps = 0 }
+
+-- the thread as it was, and what its scalar register n reads
+unfoldable pub readOf : Thread → ℕ → Reading
+readOf t n = record { thread = t; value = scalarOf (t .registers) n }
 
 -- the thread with x in scalar register n
 unfoldable pub written : Thread → ℕ → ℕ → Thread

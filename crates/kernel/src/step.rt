@@ -3,6 +3,7 @@ ghost use mathlib.Core.Path.{_≡_};
 ghost use Prim.Native.Nat.{_+_, _^_, _<_};
 ghost use Rattle.kernel.specs.Step.{Shows, stops, goesOn, ends, branched, afterStore, applied, executed, stepOf};
 use crate::pack::Kernel;
+use crate::pack::code_word;
 use crate::thread::Thread;
 use instruction::decode::decode;
 use instruction::effect::Effect;
@@ -11,7 +12,6 @@ use instruction::effect::effect_of;
 use instruction::list::Instr;
 use memory::access::store;
 use memory::address::Reach;
-use memory::peek::peek_word;
 use memory::quad::store_quad;
 use words::arithmetic::add;
 use words::choice::both;
@@ -101,13 +101,15 @@ fn execute(thread: Thread, instr: Instr, length: usize, window: &mut [u8]) -> St
     requires { ⌜ (thread .steps + 1 < 2 ^ 32) × (instr .rd < 32) × (instr .rs1 < 32) × (instr .rs2 < 32) ⌝ }
     ensures { λ r. ⌜ Shows r (now (window .exit)) (executed length instr thread (now (window .entry))) ⌝ }
 {
-    let x = thread.read(instr.rs1);
-    let y = thread.read(instr.rs2);
-    let registers = thread.registers;
+    let first = thread.read(instr.rs1);
+    let read_once = first.thread;
+    let second = read_once.read(instr.rs2);
+    let read_twice = second.thread;
+    let registers = read_twice.registers;
     let vectors = registers.vectors;
     let op = instr.op;
-    let effect = effect_of(op, x, y, &vectors, window);
-    apply(thread, instr.rd, effect, length, window)
+    let effect = effect_of(op, first.value, second.value, &vectors, window);
+    apply(read_twice, instr.rd, effect, length, window)
 }
 
 pub fn step(thread: Thread, pack: &[u8], kernel: Kernel, window: &mut [u8], limit: u32) -> Stepped
@@ -117,10 +119,9 @@ pub fn step(thread: Thread, pack: &[u8], kernel: Kernel, window: &mut [u8], limi
     if limit <= thread.steps {
         return stop(thread, Stop::OutOfSteps);
     }
-    let place = thread.place as usize;
-    if kernel.length <= place {
+    if kernel.length <= thread.place as usize {
         return stop(thread, Stop::OffTheKernel);
     }
-    let instr = decode(peek_word(pack, kernel.start + place));
+    let instr = decode(code_word(pack, kernel, thread.place));
     execute(thread, instr, kernel.length, window)
 }

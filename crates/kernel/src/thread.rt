@@ -1,8 +1,8 @@
-// A thread: its registers, its place in the kernel's bytes and the steps it has taken. Each method hands the state back.
+// A thread: its registers, its place in the kernel's bytes and the steps it has taken. Each method hands the state back,
+// a read with the value beside it.
 ghost use mathlib.Core.Path.{_≡_};
 ghost use Prim.Native.Nat.{_+_, _%_, _^_, _<_};
-ghost use Rattle.kernel.specs.Registers.{scalarOf};
-ghost use Rattle.kernel.specs.Thread.{started, written, writtenVector, movedTo, advanced};
+ghost use Rattle.kernel.specs.Thread.{started, readOf, written, writtenVector, movedTo, advanced};
 use crate::registers::Registers;
 use memory::quad::Quad;
 use words::arithmetic::add;
@@ -11,6 +11,12 @@ pub struct Thread {
     pub registers: Registers,
     pub place: u32,
     pub steps: u32,
+}
+
+// A register's value, and the thread that it was read from.
+pub struct Reading {
+    pub thread: Thread,
+    pub value: u32,
 }
 
 impl Thread {
@@ -24,11 +30,14 @@ impl Thread {
         }
     }
 
-    pub fn read(self, n: u32) -> u32
-        ensures { λ r. ⌜ r ≡ scalarOf (self .registers) (n % 32) ⌝ }
+    pub fn read(self, n: u32) -> Reading
+        ensures { λ r. ⌜ r ≡ readOf self (n % 32) ⌝ }
     {
         let registers = self.registers;
-        registers.scalar(n)
+        Reading {
+            thread: self,
+            value: registers.scalar(n),
+        }
     }
 
     pub fn write(mut self, n: u32, value: u32) -> Self

@@ -4,22 +4,12 @@ use borrow.Author.Needs.{needs}
 use Rattle.job.proofs.kernels.has_word.Statement.{statement}
 use Rattle.job.proofs.kernels.has_word.Tie as tie
 
-mul-peek-word : tie.Need-mul-peek-word
-mul-peek-word c = search needs
-
-add-peek-word : tie.Need-add-peek-word
-add-peek-word c = search needs
-
-add-peek-word-2 : tie.Need-add-peek-word-2
-add-peek-word-2 c = search needs
-
-peek-word-requires : tie.Need-peek-word-requires
-peek-word-requires c κs = search needs
+kernel-words-requires : tie.Need-kernel-words-requires
+kernel-words-requires c κs = search needs
 
 returns : tie.Need-returns
 unfolding hasWord
 returns c = cc
 
 pub has-word-spec : {M : Type 1} → statement M
-has-word-spec =
-    tie.close (tie.spec mul-peek-word add-peek-word add-peek-word-2 peek-word-requires returns)
+has-word-spec = tie.close (tie.spec kernel-words-requires returns)

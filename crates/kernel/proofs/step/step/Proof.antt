@@ -17,8 +17,8 @@ returns : tie.Need-returns
 unfolding stepOf
 returns c = rw (le-leb _ _ (c .before .if1 .taken)) (record { answer = c .stop .ensures; memory = refl })
 
-cast-place : tie.Need-cast-place
-cast-place c = search needs
+cast-if2 : tie.Need-cast-if2
+cast-if2 c = search needs
 
 stop-requires-2 : tie.Need-stop-requires-2
 stop-requires-2 c κs = search needs
@@ -27,11 +27,8 @@ returns-2 : tie.Need-returns-2
 unfolding stepOf
 returns-2 c = simp (lt-leb _ _ (c .before .before .before .before .if1 .left), le-leb _ _ (c .before .if2 .taken)) (record { answer = c .stop2 .ensures; memory = refl })
 
-add-peek-word : tie.Need-add-peek-word
-add-peek-word c = search needs
-
-peek-word-requires : tie.Need-peek-word-requires
-peek-word-requires c κs = search needs
+code-word-requires : tie.Need-code-word-requires
+code-word-requires c κs = search needs
 
 decode-requires : tie.Need-decode-requires
 decode-requires c κs = search needs
@@ -45,7 +42,7 @@ same-length c = search needs
 
 returns-3 : tie.Need-returns-3
 unfolding stepOf
-returns-3 c = simp (lt-leb _ _ (c .before .before .before .before .before .before .before .before .before .before .if1 .left), lt-leb _ _ (c .before .before .before .before .before .before .before .if2 .left), ← c .before .before .before .before .before .peek-word .ensures, ← c .before .before .before .before .decode .ensures) (c .before .before .execute .ensures)
+returns-3 c = simp (lt-leb _ _ (c .before .before .before .before .before .before .before .before .before .if1 .left), lt-leb _ _ (c .before .before .before .before .before .before .if2 .left), ← c .before .before .before .before .before .code-word .ensures, ← c .before .before .before .before .decode .ensures) (c .before .before .execute .ensures)
 
 pub step-spec : {M : Type 1} → statement M
 step-spec =
@@ -53,11 +50,10 @@ step-spec =
     (tie.spec
     stop-requires
     returns
-    cast-place
+    cast-if2
     stop-requires-2
     returns-2
-    add-peek-word
-    peek-word-requires
+    code-word-requires
     decode-requires
     execute-requires
     same-length
