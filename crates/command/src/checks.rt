@@ -86,19 +86,24 @@ fn is_unfit_dispatch(command: Command, pack: &[u8]) -> bool
 pub fn check(command: Command, length: usize, frame: Frame, pack: &[u8]) -> Outcome
     ensures { λ r. ⌜ r ≡ checkOf command length frame (now (pack .entry)) ⌝ }
 {
-    if is_misaligned(command) {
+    let misaligned = is_misaligned(command);
+    let unframed = is_unframed(command, frame);
+    let outside = is_outside(command, length, frame);
+    let unfit_frame = is_unfit_frame(command);
+    let unfit_dispatch = is_unfit_dispatch(command, pack);
+    if misaligned {
         return Outcome::Misaligned;
     }
-    if is_unframed(command, frame) {
+    if unframed {
         return Outcome::NoFrame;
     }
-    if is_outside(command, length, frame) {
+    if outside {
         return Outcome::OutsideTheWindow;
     }
-    if is_unfit_frame(command) {
+    if unfit_frame {
         return Outcome::BadFrame;
     }
-    if is_unfit_dispatch(command, pack) {
+    if unfit_dispatch {
         return Outcome::BadDispatch;
     }
     Outcome::Done
