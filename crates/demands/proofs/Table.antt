@@ -4,7 +4,7 @@ use mathlib.Core.Path.{refl}
 use Rattle.kernel.proofs.Examples as kernel
 use Rattle.demands.specs.Table.{colored, ringNamed, Table}
 use Rattle.device.specs.State.{freshDevice, ringOf, slotOf, withRing, withSlot, withMarker}
-use Rattle.device.specs.Refusal.{windowFits, memoryFits, windowsFit, frameSound, ringSound, stateSound, ringFits, ringsFit, verdictOf}
+use Rattle.device.specs.Refusal.{windowFits, memoryFits, windowsFit, ringSound, stateSound, ringFits, ringsFit, verdictOf}
 use Rattle.device.specs.Ready.{readyWith, readyWhere, readyAt, nextRing, seek, bytesOfRing, pickOf}
 use Rattle.device.specs.Turn.{unchanged, fenceOf, emitTo, ringAfter, deviceAfter, reportOf, finished, servedOf, pickedOf, judgedOf, verdictOn, turnOf}
 use Rattle.command.specs.Choice.{either}
@@ -25,7 +25,7 @@ use Rattle.memory.specs.Window.{windowOf, putBack}
 use Rattle.kernel.specs.Pack.{kernelCount, firstWord, kernelWords, codeCount, liesInCode, allLie, soundPack, kernelOf}
 
 pub table : Table
-unfolding colored ringNamed freshDevice ringOf slotOf withRing withSlot withMarker windowFits memoryFits windowsFit frameSound ringSound stateSound ringFits ringsFit verdictOf readyWith readyWhere readyAt nextRing seek bytesOfRing pickOf unchanged fenceOf emitTo ringAfter deviceAfter reportOf finished servedOf pickedOf judgedOf verdictOn turnOf either rowOf waitSize payloadSize targetAt commandAt isWhole outcomeNumber unknownOpcode wrongPayloadBit noSuchSlot headerFault frameMisaligned frameUnfit frameFault heldFault strideOf isRectangle sizeOf widthOf heightOf tooNarrow endOf slotFault misaligned unframed outside unfitFrame outOfRange unfitDispatch checkOf emits interrupts wordsRead leaves ranOutcome dispatchedBy afterDispatch heldBy workOf orElse faultOf guarded performedOf after halfAt wordAt withByte withHalf withWord rectangleEnd filledRow filled windowOf putBack kernelCount firstWord kernelWords codeCount liesInCode allLie soundPack kernelOf
+unfolding colored ringNamed freshDevice ringOf slotOf withRing withSlot withMarker windowFits memoryFits windowsFit ringSound stateSound ringFits ringsFit verdictOf readyWith readyWhere readyAt nextRing seek bytesOfRing pickOf unchanged fenceOf emitTo ringAfter deviceAfter reportOf finished servedOf pickedOf judgedOf verdictOn turnOf either rowOf waitSize payloadSize targetAt commandAt isWhole outcomeNumber unknownOpcode wrongPayloadBit noSuchSlot headerFault frameMisaligned frameUnfit frameFault heldFault strideOf isRectangle sizeOf widthOf heightOf tooNarrow endOf slotFault misaligned unframed outside unfitFrame outOfRange unfitDispatch checkOf emits interrupts wordsRead leaves ranOutcome dispatchedBy afterDispatch heldBy workOf orElse faultOf guarded performedOf after halfAt wordAt withByte withHalf withWord rectangleEnd filledRow filled windowOf putBack kernelCount firstWord kernelWords codeCount liesInCode allLie soundPack kernelOf
 table = record {
   p1 = refl;
   p2 = refl;

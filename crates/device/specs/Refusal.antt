@@ -1,13 +1,11 @@
 -- Whole calls that are refused, in this order and for nothing else.
 use Prim.Native.Nat.{ℕ, _+_, _%_}
-use mathlib.Core.Bool.{Bool, true, _&&_}
+use mathlib.Core.Bool.{Bool, _&&_}
 use mathlib.Core.List.{List}
 use lib.Dec.{leb, eqb}
-use Rattle.command.specs.declared.frame.Frame.{Frame}
-use Rattle.command.specs.declared.frame.Frame.the-variants.{Unset, Held}
 use Rattle.command.specs.Choice.{either}
 use Rattle.command.specs.Outcome.{isDone}
-use Rattle.command.specs.Frame.{frameFault}
+use Rattle.command.specs.Frame.{heldFault}
 use Rattle.kernel.specs.Pack.{soundPack}
 use Rattle.device.specs.declared.state.Window.{Window}
 use Rattle.device.specs.declared.state.Ring.{Ring}
@@ -35,18 +33,14 @@ unfoldable pub memoryFits : ℕ → Window → Window → Window → Window → 
 memoryFits memory w0 w1 w2 w3 =
     leb memory 1048576 && (windowFits memory w0 && windowFits memory w1 && windowFits memory w2 && windowFits memory w3)
 
+-- not 101, of the windows that the rings have
 unfoldable pub windowsFit : Device → ℕ → Bool
 windowsFit d memory =
     memoryFits memory (ringOf d 0 .window) (ringOf d 1 .window) (ringOf d 2 .window) (ringOf d 3 .window)
 
--- a held frame is one that SET_FB would not refuse
-unfoldable pub frameSound : Frame → ℕ → Bool
-frameSound Unset length = true
-frameSound (Held base stride format) length = isDone (frameFault base stride format length)
-
--- the cursor is at most 65,536 and the frame is sound
+-- the cursor is at most 65,536, and a held frame is one that SET_FB would not refuse
 unfoldable pub ringSound : Ring → Bool
-ringSound r = leb (r .cursor) 65536 && frameSound (r .frame) (r .window .length)
+ringSound r = leb (r .cursor) 65536 && isDone (heldFault (r .frame) (r .window .length))
 
 -- not 102: the marker is at most 3, and each ring is sound
 unfoldable pub stateSound : Device → Bool

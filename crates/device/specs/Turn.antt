@@ -36,6 +36,7 @@ pub record Call : Type 0 where
   pub pack : List ℕ
   pub pipe : List ℕ
 
+-- the memory, rings, pack and pipe of a call
 abbrev pub callOf : List ℕ → List ℕ → List ℕ → List ℕ → List ℕ → List ℕ → List ℕ → Call
 callOf memory ring0 ring1 ring2 ring3 pack pipe =
     record { memory = memory; ring0 = ring0; ring1 = ring1; ring2 = ring2; ring3 = ring3; pack = pack; pipe = pipe }
@@ -89,6 +90,7 @@ reportOf d q c p = Served (record {
   irq = interrupts c (p .outcome);
 })
 
+-- the device and the report once ring q's command has had its outcome
 unfoldable pub finished : Device → ℕ → Command → Performed → Turned
 finished d q c p = record { device = deviceAfter d q c p; answer = reportOf d q c p }
 

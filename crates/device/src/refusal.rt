@@ -1,12 +1,11 @@
 // Whole calls that are refused, in their order.
 ghost use mathlib.Core.Path.{_≡_};
 ghost use mathlib.Core.Bool.{_&&_};
-ghost use Rattle.device.specs.Refusal.{refusalNumber, windowFits, memoryFits, frameSound, ringSound, stateSound, ringFits, ringsFit, windowsFit, verdictOf};
+ghost use Rattle.device.specs.Refusal.{refusalNumber, windowFits, memoryFits, ringSound, stateSound, ringFits, ringsFit, windowsFit, verdictOf};
 use crate::state::Device;
 use crate::state::Ring;
 use crate::state::Window;
-use command::frame::Frame;
-use command::frame::frame_fault;
+use command::frame::held_fault;
 use command::outcome::is_done;
 use kernel::pack::is_sound;
 use words::choice::both;
@@ -75,19 +74,6 @@ pub fn memory_fits(memory: usize, w0: Window, w1: Window, w2: Window, w3: Window
     both(memory <= MOST_MEMORY, windows)
 }
 
-fn frame_sound(frame: Frame, length: u32) -> bool
-    ensures { λ r. ⌜ r ≡ frameSound frame length ⌝ }
-{
-    match frame {
-        Frame::Unset => true,
-        Frame::Held {
-            base,
-            stride,
-            format,
-        } => is_done(frame_fault(base, stride, format, length as usize)),
-    }
-}
-
 fn ring_sound(ring: Ring) -> bool
     ensures { λ r. ⌜ r ≡ ringSound ring ⌝ }
 {
@@ -95,7 +81,7 @@ fn ring_sound(ring: Ring) -> bool
     let window = ring.window;
     both(
         ring.cursor as usize <= MOST_RING,
-        frame_sound(frame, window.length),
+        is_done(held_fault(frame, window.length as usize)),
     )
 }
 
@@ -155,19 +141,23 @@ pub fn judge(
 ) -> Verdict
     ensures { λ r. ⌜ r ≡ verdictOf d memory l0 l1 l2 l3 pipe (now (pack .entry)) ⌝ }
 {
-    if !windows_fit(d, memory) {
+    let windows_fit = windows_fit(d, memory);
+    let state_sound = state_sound(d);
+    let rings_fit = rings_fit(d, l0, l1, l2, l3);
+    let pack_sound = is_sound(pack);
+    if !windows_fit {
         return Verdict::Refused(Refusal::Memory);
     }
-    if !state_sound(d) {
+    if !state_sound {
         return Verdict::Refused(Refusal::State);
     }
-    if !rings_fit(d, l0, l1, l2, l3) {
+    if !rings_fit {
         return Verdict::Refused(Refusal::Rings);
     }
     if pipe < LEAST_PIPE {
         return Verdict::Refused(Refusal::Pipe);
     }
-    if !is_sound(pack) {
+    if !pack_sound {
         return Verdict::Refused(Refusal::Pack);
     }
     Verdict::Sound

@@ -7,8 +7,14 @@ use Rattle.device.proofs.refusal.ring_sound.Tie as tie
 cast-both : tie.Need-cast-both
 cast-both c = search needs
 
-frame-sound-requires : tie.Need-frame-sound-requires
-frame-sound-requires c κs = search needs
+cast-held-fault : tie.Need-cast-held-fault
+cast-held-fault c = search needs
+
+held-fault-requires : tie.Need-held-fault-requires
+held-fault-requires c κs = search needs
+
+is-done-requires : tie.Need-is-done-requires
+is-done-requires c κs = search needs
 
 both-requires : tie.Need-both-requires
 both-requires c κs = search needs
@@ -18,4 +24,6 @@ unfolding ringSound
 returns c = cc
 
 pub ring-sound-spec : {M : Type 1} → statement M
-ring-sound-spec = tie.close (tie.spec cast-both frame-sound-requires both-requires returns)
+ring-sound-spec =
+    tie.close
+    (tie.spec cast-both cast-held-fault held-fault-requires is-done-requires both-requires returns)

@@ -30,7 +30,7 @@ with-marker-requires c κs = search needs
 
 returns : tie.Need-returns
 unfolding deviceAfter
-returns c = cc
+returns c = rw (c .with-marker .ensures, ← c .before .next-ring .ensures, c .before .before .emit-to .ensures, c .before .before .before .with-ring .ensures, c .before .before .before .before .slot .ensures, c .before .before .before .before .before .emits-fence .ensures, c .before .before .before .before .before .before .ring-after .ensures, c .before .before .before .before .before .before .before .ring .ensures)
 
 pub device-after-spec : {M : Type 1} → statement M
 device-after-spec =
