@@ -10,6 +10,7 @@ use Rattle.command.specs.declared.frame.Frame.the-variants.{Unset, Held}
 use Rattle.command.specs.Opcode.{fillRect, blit}
 use Rattle.command.specs.Frame.{strideOf}
 
+-- FILL and BLIT work on a rectangle
 unfoldable pub isRectangle : ℕ → Bool
 isRectangle opcode = eqb opcode fillRect || eqb opcode blit
 

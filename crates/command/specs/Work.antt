@@ -33,6 +33,7 @@ pub record Shows (r : Performed) (window pipe : List ℕ) (l : Left) : Type 0 wh
   pub memory : window ≡ l .window
   pub words : pipe ≡ l .pipe
 
+-- this outcome, with this frame, window and pipe after it
 unfoldable pub leaves : Outcome → Frame → List ℕ → List ℕ → Left
 leaves o frame window pipe = record { performed = record { outcome = o; frame = frame }; window = window; pipe = pipe }
 
@@ -48,6 +49,7 @@ ranOutcome (Stopped NoStepsLeft) = OutOfSteps
 unfoldable pub dispatchedBy : Command → ℕ → List ℕ → List ℕ → Dispatched
 dispatchedBy c limit pack window = dispatchOf limit pack (c .arg2) (c .arg0) (c .arg1) window
 
+-- after a dispatch: its outcome, and the window with the stores made before a stop; it changes no frame or pipe
 unfoldable pub afterDispatch : Frame → List ℕ → Dispatched → Left
 afterDispatch frame pipe d = leaves (ranOutcome (d .ran)) frame (d .window) pipe
 
