@@ -42,15 +42,15 @@ returns-3 c = rw (by-tests (c .before .before .before), not-false (c .before .be
 
 returns-4 : tie.Need-returns-4
 unfolding either
-returns-4 c = rw (by-tests (c .before .before .before .before), not-false (c .before .before .before .before .before .before .before .windows-fit .result) (c .before .before .before .if1 .left), not-false (c .before .before .before .before .before .before .state-sound .result) (c .before .before .if2 .left), not-false (c .before .before .before .before .before .rings-fit .result) (c .before .if3 .left), lt-leb _ _ (c .if4 .taken))
+returns-4 c = rw (by-tests (c .before .before .before .before), not-false (c .before .before .before .before .before .before .before .windows-fit .result) (c .before .before .before .if1 .left), not-false (c .before .before .before .before .before .before .state-sound .result) (c .before .before .if2 .left), not-false (c .before .before .before .before .before .rings-fit .result) (c .before .if3 .left), lt-leb 1020 _ (c .if4 .taken))
 
 returns-5 : tie.Need-returns-5
 unfolding either
-returns-5 c = rw (by-tests (c .before .before .before .before .before), not-false (c .before .before .before .before .before .before .before .before .windows-fit .result) (c .before .before .before .before .if1 .left), not-false (c .before .before .before .before .before .before .before .state-sound .result) (c .before .before .before .if2 .left), not-false (c .before .before .before .before .before .before .rings-fit .result) (c .before .before .if3 .left), le-leb _ _ (c .before .if4 .left), not-true (c .before .before .before .before .before .is-sound .result) (c .if5 .taken))
+returns-5 c = rw (by-tests (c .before .before .before .before .before), not-false (c .before .before .before .before .before .before .before .before .windows-fit .result) (c .before .before .before .before .if1 .left), not-false (c .before .before .before .before .before .before .before .state-sound .result) (c .before .before .before .if2 .left), not-false (c .before .before .before .before .before .before .rings-fit .result) (c .before .before .if3 .left), le-leb 1020 _ (c .before .if4 .left), not-true (c .before .before .before .before .before .is-sound .result) (c .if5 .taken))
 
 returns-6 : tie.Need-returns-6
 unfolding either
-returns-6 c = rw (by-tests (c .before .before .before .before .before), not-false (c .before .before .before .before .before .before .before .before .windows-fit .result) (c .before .before .before .before .if1 .left), not-false (c .before .before .before .before .before .before .before .state-sound .result) (c .before .before .before .if2 .left), not-false (c .before .before .before .before .before .before .rings-fit .result) (c .before .before .if3 .left), le-leb _ _ (c .before .if4 .left), not-false (c .before .before .before .before .before .is-sound .result) (c .if5 .left))
+returns-6 c = rw (by-tests (c .before .before .before .before .before), not-false (c .before .before .before .before .before .before .before .before .windows-fit .result) (c .before .before .before .before .if1 .left), not-false (c .before .before .before .before .before .before .before .state-sound .result) (c .before .before .before .if2 .left), not-false (c .before .before .before .before .before .before .rings-fit .result) (c .before .before .if3 .left), le-leb 1020 _ (c .before .if4 .left), not-false (c .before .before .before .before .before .is-sound .result) (c .if5 .left))
 
 pub judge-spec : {M : Type 1} → statement M
 judge-spec =
