@@ -7,7 +7,6 @@ use Rattle.demands.specs.Idle.{IdleIsDone}
 use Rattle.demands.specs.StepByStep.{EachStep}
 use Rattle.demands.specs.OneAnswer.{OneAnswer}
 use Rattle.demands.specs.Table.{Table}
-use Rattle.demands.proofs.Works.{full-slot-stays, emits-when-sound, window-stays, pipe-stays, faults-keep}
 use Rattle.demands.proofs.FourTurns as four
 use Rattle.demands.proofs.Keeps as keeps
 use Rattle.demands.proofs.Reports as reports
@@ -19,14 +18,14 @@ use Rattle.demands.proofs.Table as worked
 
 -- demand 1: what a turn leaves as it was
 pub turn-keeps : TurnKeeps
-turn-keeps = keeps.turn-keeps window-stays pipe-stays faults-keep
+turn-keeps = keeps.turn-keeps
 
 pub fresh-makes : FreshMakes
 fresh-makes = keeps.fresh-makes
 
 -- demand 2: what is reported, and what changes in the device
 pub turn-reports : TurnReports
-turn-reports = reports.turn-reports full-slot-stays emits-when-sound
+turn-reports = reports.turn-reports
 
 -- demand 2, down to each step of each thread
 pub each-step : EachStep
@@ -34,17 +33,17 @@ each-step = steps.each-step
 
 -- demand 3: a ready ring is served within four turns
 pub four-turns : FourTurns
-four-turns = four.four-turns full-slot-stays
+four-turns = four.four-turns
 
 pub four-turns-by-head : FourTurnsByHead
-four-turns-by-head = four.four-turns-by-head full-slot-stays
+four-turns-by-head = four.four-turns-by-head
 
 -- demand 3: turns over unchanging rings come to an end, and when the answer is idle no order of starts gets further
 pub turns-bounded : TurnsBounded
 turns-bounded = bounded.turns-bounded
 
 pub idle-is-done : IdleIsDone
-idle-is-done = idle.idle-is-done emits-when-sound
+idle-is-done = idle.idle-is-done
 
 -- no second answer meets a contract
 pub one-answer : OneAnswer

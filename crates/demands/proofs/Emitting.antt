@@ -17,7 +17,8 @@ use Rattle.command.specs.Outcome.{outcomeNumber, isDone}
 use Rattle.command.specs.Perform.{performedOf}
 use Rattle.command.specs.Report.{emits}
 use Rattle.command.proofs.Choices.{both-left, both-right}
-use Rattle.demands.specs.Performs.{isEmitting, EachWork, FullSlotStays, EmitsWhenSound}
+use Rattle.demands.specs.Idle.{isEmitting}
+use Rattle.demands.proofs.Works.{full-slot-stays, emits-when-sound}
 
 -- no header fault: the slot's number is not too large
 no-fault : (unknown reserved payload slot : Bool)
@@ -42,8 +43,8 @@ emitting-slot c e =
     (both-right (emitBit (c .flags)) (isDone (headerFault c)) e))
 
 -- so does a command that has added to its slot
-pub emits-in-range : FullSlotStays → EmitsWhenSound → (c : Command) (slot : ℕ) (ring window : List ℕ) (frame : Frame) (pack pipe : List ℕ) (limit : ℕ)
+pub emits-in-range : (c : Command) (slot : ℕ) (ring window : List ℕ) (frame : Frame) (pack pipe : List ℕ) (limit : ℕ)
     → emits c (performedOf c slot ring window frame pack pipe limit .performed .outcome) ≡ true → c .rdst < 64
-unfolding FullSlotStays EmitsWhenSound EachWork
-emits-in-range full when c slot ring window frame pack pipe limit e =
-    emitting-slot c (sym (when c slot ring window frame pack pipe limit (full c slot ring window frame pack pipe limit e)) ∙ e)
+emits-in-range c slot ring window frame pack pipe limit e =
+    let free = full-slot-stays c slot ring window frame pack pipe limit e in
+    emitting-slot c (sym (emits-when-sound c slot ring window frame pack pipe limit free) ∙ e)

@@ -1,5 +1,5 @@
 -- A ready ring is served within four turns: each turn that serves another ring brings the marker nearer to it.
--- Assumes that a full slot is never added to.
+-- Assumes nothing.
 use mathlib.Core.Path.{_≡_, refl, sym, ap, _∙_}
 use mathlib.Core.Bool.{Bool, true, false, not, _||_}
 use mathlib.Core.List.{List, [], _∷_}
@@ -26,8 +26,8 @@ use Rattle.device.specs.Turn.{Call, After, turnOf, unchanged, reportOf, finishe
 use Rattle.device.proofs.Wholes.{whole-inside}
 use Rattle.demands.specs.Calls.{ringIn, headIn, answerOf, deviceOf, isRefused, ServesRing, SlotsFit, heard, EachHeard, none, more, Serves, here, later}
 use Rattle.demands.specs.FourTurns.{SameHead, FourTurns, FourTurnsByHead}
-use Rattle.demands.specs.Performs.{EachWork, FullSlotStays}
 use Rattle.demands.proofs.Turns.{pickIn, servedIn, workIn, turn-cases, marker-below, served-heard}
+use Rattle.demands.proofs.Works.{full-slot-stays}
 use Rattle.demands.proofs.Devices.{after-marker, after-other-ring, after-rises, after-fits}
 use Rattle.demands.proofs.Walks.{walk, walk-next, walk-rest, seek-reaches, distance}
 
@@ -70,10 +70,10 @@ module _ (q : ℕ) (b : List ℕ) (k : ℕ) where
       let c = command-agree b r k (same .bytes) in
       rw (w .cursor, whole-agree b r k (same .bytes) (same .inside), ← c) (w .ready)
 
-  module _ (full : FullSlotStays) (limit : ℕ) (d : Device) (call : Call) (j : ℕ) (w : Waiting j d) where
+  module _ (limit : ℕ) (d : Device) (call : Call) (j : ℕ) (w : Waiting j d) where
     -- another ring, i further than the marker, is served
     passed-by : (i : ℕ) → i < j → (walk i (d .marker) ≡ q → ⊥) → Step j d (servedIn limit d call (walk i (d .marker)))
-    unfolding servedOf finished reportOf isRefused FullSlotStays EachWork
+    unfolding servedOf finished reportOf isRefused
     passed-by i less other =
         let r = walk i (d .marker) in
         let c = headIn d call r in
@@ -84,7 +84,7 @@ module _ (q : ℕ) (b : List ℕ) (k : ℕ) where
           slots = after-fits d r c p (w .slots);
           cursor = ap (λ x. x .cursor) (after-other-ring d r c p q (λ e. other (sym e))) ∙ w .cursor;
           ready =
-              ready-rises (commandAt b k) _ _ (after-rises d r c p (w .slots) (full c _ _ _ _ _ _ _) (commandAt b k .rdst)) (w .ready);
+              ready-rises (commandAt b k) _ _ (after-rises d r c p (w .slots) (full-slot-stays c _ _ _ _ _ _ _) (commandAt b k .rdst)) (w .ready);
           away = rw (after-marker d r c p, walk-next i (d .marker)) (rest .2 ∙ w .away);
           small = omega (arith, rest .1, w .small);
         })
@@ -124,13 +124,13 @@ module _ (q : ℕ) (b : List ℕ) (k : ℕ) where
         (λ sound e same. absurd (let near = reached (same refl) in let z : _≡_ {A = ℕ} 0 1 = cc (near .2) in omega arith))
         (λ r sound e same. picked r e (same (served-heard limit d call r)))
 
-  module _ (full : FullSlotStays) (limit : ℕ) where
+  module _ (limit : ℕ) where
     -- as many turns as the ring is further than the marker, and one more
     near : (calls : List Call) (j : ℕ) (d : Device) → Waiting j d → EachHeard (λ call. SameHead b k (ringIn call q)) limit d calls
         → j < heard limit d calls → Serves limit q k d calls
     unfolding heard either
     near [] j d w each enough = absurd (not-suc-le-zero enough)
-    near (call ∷ calls) j d w (more same each) enough = go (near calls) (step full limit d call j w same)
+    near (call ∷ calls) j d w (more same each) enough = go (near calls) (step limit d call j w same)
       where
         go : ((i : ℕ) (d : Device) → Waiting i d → EachHeard (λ call. SameHead b k (ringIn call q)) limit d calls
             → i < heard limit d calls → Serves limit q k d calls)
@@ -151,35 +151,34 @@ refused-or-marked limit d call =
     (λ sound e. inr (marker-below d call sound))
     (λ r sound e. inr (marker-below d call sound))
 
-module _ (full : FullSlotStays) where
-  waits : (limit : ℕ) (q : ℕ) (b : List ℕ) (k : ℕ) → q < 4 → (calls : List Call) (d : Device) → SlotsFit d → ringOf d q .cursor ≡ k
-      → readyWith (commandAt b k) (slotOf d (commandAt b k .rdst)) ≡ true
-      → EachHeard (λ call. SameHead b k (ringIn call q)) limit d calls → 4 ≤ heard limit d calls → Serves limit q k d calls
-  unfolding heard either
-  waits limit q b k four [] d fit at ready each enough = absurd (not-suc-le-zero enough)
-  waits limit q b k four (call ∷ calls) d fit at ready (more same each) enough =
-      ⊎-elim
-      (λ r.
-      later
-      (waits limit q b k four calls (deviceOf limit d call) (rw (r .1) fit) (rw (r .1) at) (rw (r .1) ready) each
-      (omega (arith, rw (r .0) at enough))))
-      (λ marked.
-      let away = distance (d .marker) q marked four in
-      near q b k full limit (call ∷ calls) (away .0) d
-      (record { slots = fit; cursor = at; ready = ready; away = away .2; small = away .1 })
-      (more same each) (omega (arith, away .1, enough)))
-      (refused-or-marked limit d call)
+waits : (limit : ℕ) (q : ℕ) (b : List ℕ) (k : ℕ) → q < 4 → (calls : List Call) (d : Device) → SlotsFit d → ringOf d q .cursor ≡ k
+    → readyWith (commandAt b k) (slotOf d (commandAt b k .rdst)) ≡ true
+    → EachHeard (λ call. SameHead b k (ringIn call q)) limit d calls → 4 ≤ heard limit d calls → Serves limit q k d calls
+unfolding heard either
+waits limit q b k four [] d fit at ready each enough = absurd (not-suc-le-zero enough)
+waits limit q b k four (call ∷ calls) d fit at ready (more same each) enough =
+    ⊎-elim
+    (λ r.
+    later
+    (waits limit q b k four calls (deviceOf limit d call) (rw (r .1) fit) (rw (r .1) at) (rw (r .1) ready) each
+    (omega (arith, rw (r .0) at enough))))
+    (λ marked.
+    let away = distance (d .marker) q marked four in
+    near q b k limit (call ∷ calls) (away .0) d
+    (record { slots = fit; cursor = at; ready = ready; away = away .2; small = away .1 })
+    (more same each) (omega (arith, away .1, enough)))
+    (refused-or-marked limit d call)
 
-  pub four-turns-by-head : FourTurnsByHead
-  unfolding FourTurnsByHead readyAt readyWhere slotOf
-  four-turns-by-head limit d q b calls four fit ready each enough =
-      waits limit q b (ringOf d q .cursor) four calls d fit refl (both-right (isWhole b (ringOf d q .cursor)) _ ready) each enough
+pub four-turns-by-head : FourTurnsByHead
+unfolding FourTurnsByHead readyAt readyWhere slotOf
+four-turns-by-head limit d q b calls four fit ready each enough =
+    waits limit q b (ringOf d q .cursor) four calls d fit refl (both-right (isWhole b (ringOf d q .cursor)) _ ready) each enough
 
-  pub four-turns : FourTurns
-  unfolding FourTurns FourTurnsByHead readyAt readyWhere slotOf
-  four-turns limit d q b calls four fit ready each enough =
-      let k = ringOf d q .cursor in
-      let whole = both-left (isWhole b k) (readyWith (commandAt b k) (slotOf d (commandAt b k .rdst))) ready in
-      let kept : (call : Call) → ringIn call q ≡ b → SameHead b k (ringIn call q) =
-      λ call e. record { bytes = λ i low high. ap (λ r. getD r i 0) (sym e); inside = rw e (whole-inside b k whole) } in
-      four-turns-by-head limit d q b calls four fit ready (each-more kept each) enough
+pub four-turns : FourTurns
+unfolding FourTurns FourTurnsByHead readyAt readyWhere slotOf
+four-turns limit d q b calls four fit ready each enough =
+    let k = ringOf d q .cursor in
+    let whole = both-left (isWhole b k) (readyWith (commandAt b k) (slotOf d (commandAt b k .rdst))) ready in
+    let kept : (call : Call) → ringIn call q ≡ b → SameHead b k (ringIn call q) =
+    λ call e. record { bytes = λ i low high. ap (λ r. getD r i 0) (sym e); inside = rw e (whole-inside b k whole) } in
+    four-turns-by-head limit d q b calls four fit ready (each-more kept each) enough

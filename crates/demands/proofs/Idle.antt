@@ -1,5 +1,5 @@
 -- When the answer is idle, no order of starts gets further than the device did.
--- Assumes that a slot that is not full is added to exactly by a command that emits.
+-- Assumes nothing.
 use mathlib.Core.Path.{_≡_, refl, sym, ap, _∙_}
 use mathlib.Core.Bool.{Bool, true, false}
 use mathlib.Core.List.{List, [], _∷_}
@@ -25,10 +25,10 @@ use Rattle.device.specs.Ready.{readyWhere, readyAt, pickOf}
 use Rattle.device.specs.Turn.{Call, emitted, unchanged, deviceAfter, finished, reportOf, servedOf, verdictOn}
 use Rattle.device.proofs.Verdicts.{each-of-four, steady}
 use Rattle.demands.specs.Calls.{ringIn, headIn, answerOf, deviceOf, isRefused, SlotsFit, EachHeard, none, more, Formed}
-use Rattle.demands.specs.Performs.{isEmitting, EachWork, EmitsWhenSound}
 use Rattle.demands.specs.Bounded.{Lends, sumOfFour, served, taken}
-use Rattle.demands.specs.Idle.{placeOf, nth, emitsIn, countOf, oneMore, Order, nothing, start, lastOf, IdleIsDone}
+use Rattle.demands.specs.Idle.{placeOf, nth, isEmitting, emitsIn, countOf, oneMore, Order, nothing, start, lastOf, IdleIsDone}
 use Rattle.demands.proofs.Turns.{pickIn, servedIn, workIn, turn-cases, marker-below, served-heard, picked-servable}
+use Rattle.demands.proofs.Works.{emits-when-sound}
 use Rattle.demands.proofs.Devices.{after-emit, after-no-emit, after-other-slot}
 use Rattle.demands.proofs.Walks.{seek-reaches, distance}
 use Rattle.demands.proofs.FourTurns.{ready-rises}
@@ -112,7 +112,7 @@ few R d t took call sound s =
     let each : (q : ℕ) → q < 4 → t q ≤ 4096 = λ q four. omega (arith, place-least (R q) (t q), took .cursors q four, calm .cursors q four) in
     omega (arith, took .slots s, count-most R t s, each 0 (lit< tt), each 1 (lit< tt), each 2 (lit< tt), each 3 (lit< tt))
 
-module _ (when : EmitsWhenSound) (limit : ℕ) (R : ℕ → List ℕ) where
+module _ (limit : ℕ) (R : ℕ → List ℕ) where
   -- a served ring has one more command taken
   module _ (d : Device) (t : ℕ → ℕ) (took : Took R d t) (call : Call) (lends : Lends R call) (r : ℕ)
       (sound : verdictOn d call ≡ Sound) (pick : pickIn d call ≡ RingOf r) where
@@ -135,11 +135,11 @@ module _ (when : EmitsWhenSound) (limit : ℕ) (R : ℕ → List ℕ) where
             rw (more-other t r q other) (served-others limit d call (took .formed) r sound pick q other ∙ took .cursors q four)
 
     next-slot : (s : ℕ) → slotOf (servedIn limit d call r .turned .device) s ≡ countOf R (oneMore t r) s
-    unfolding servedOf finished EmitsWhenSound EachWork
+    unfolding servedOf finished
     next-slot s =
         let c = headIn d call r in
         let free = few R d t took call sound (c .rdst) in
-        let hits = slot-hit d r c (workIn limit d call r .performed) (took .formed) free (when _ _ _ _ _ _ _ _ (λ full. omega (arith, free, full))) s in
+        let hits = slot-hit d r c (workIn limit d call r .performed) (took .formed) free (emits-when-sound _ _ _ _ _ _ _ _ (λ full. omega (arith, free, full))) s in
         let same : hit c s ≡ hit (nth (R r) (t r)) s = ap (λ k. hit k s) head in
         omega (arith, hits, same, took .slots s, count-more R t r s ring-below)
 
@@ -190,10 +190,10 @@ fresh-took R w0 w1 w2 w3 = record {
   slots = zeros 64;
 }
 
-pub idle-is-done : EmitsWhenSound → IdleIsDone
+pub idle-is-done : IdleIsDone
 unfolding IdleIsDone
-idle-is-done when limit w0 w1 w2 w3 R calls last each lends idle n order q =
-    let ran = run-took when limit R calls (freshDevice w0 w1 w2 w3) (λ q. 0) (fresh-took R w0 w1 w2 w3) each in
+idle-is-done limit w0 w1 w2 w3 R calls last each lends idle n order q =
+    let ran = run-took limit R calls (freshDevice w0 w1 w2 w3) (λ q. 0) (fresh-took R w0 w1 w2 w3) each in
     let unready = idle-unready limit R (lastOf limit (freshDevice w0 w1 w2 w3) calls) last idle in
     let le = behind limit R _ (ran .0) (ran .1) (λ p four ready. unready p four (rw (lends p four) ready)) order q in
     omega (arith, le, ran .2 q)

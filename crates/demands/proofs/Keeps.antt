@@ -1,5 +1,5 @@
 -- What a turn leaves as it was.
--- Assumes that a command keeps the lengths of its window and the pipe, and the pipe past the words read, and that one whose outcome is 1 to 10 changes nothing.
+-- Assumes nothing.
 use mathlib.Core.Path.{_≡_, refl, ap, subst, _∙_}
 use mathlib.Core.Bool.{Bool, true, false}
 use Prim.Native.Nat.{ℕ, _+_, _≤_}
@@ -9,6 +9,7 @@ use Rattle.memory.proofs.Window.{window-length, put-back-window, put-back-lengt
 use Rattle.command.specs.Choice.{either}
 use Rattle.command.specs.Outcome.{outcomeNumber}
 use Rattle.command.specs.Report.{wordsRead}
+use Rattle.command.proofs.Reports as work
 use Rattle.device.specs.declared.state.Device.{Device}
 use Rattle.device.specs.declared.refusal.Refusal.{Refusal}
 use Rattle.device.specs.declared.refusal.Refusal.the-variants.{Memory}
@@ -21,12 +22,12 @@ use Rattle.device.specs.Refusal.{refusalNumber, memoryFits}
 use Rattle.device.specs.Fresh.{freshOf}
 use Rattle.device.specs.Turn.{Call, unchanged, reportOf, finished, servedOf, turnOf}
 use Rattle.demands.specs.Calls.{headIn, answerOf, isRefused}
-use Rattle.demands.specs.Performs.{EachWork, WindowStays, PipeKept, PipeStays, FaultsKeep}
-use Rattle.demands.specs.Keeps.{Same, SameBytes, OutsideOf, Keeps, TurnKeeps, FreshMakes}
+use Rattle.demands.specs.Keeps.{Same, SameBytes, OutsideOf, PipeKept, Keeps, TurnKeeps, FreshMakes}
 use Rattle.demands.proofs.Turns.{servedIn, workIn, turn-cases, was-served, served-heard, picked-servable}
+use Rattle.demands.proofs.Works.{window-stays, pipe-stays}
 use Rattle.demands.proofs.Devices.{after-frames}
 
-module _ (stays : WindowStays) (pipe-stays : PipeStays) (faults-keep : FaultsKeep) (limit : ℕ) (d : Device) (call : Call) where
+module _ (limit : ℕ) (d : Device) (call : Call) where
   refused-same : isRefused (answerOf limit d call) ≡ true → Same d call (turnOf limit d call)
   unfolding unchanged
   refused-same =
@@ -45,8 +46,7 @@ module _ (stays : WindowStays) (pipe-stays : PipeStays) (faults-keep : FaultsKee
 
   module _ (q : ℕ) (fits : ringOf d q .window .start + ringOf d q .window .length ≤ length (call .memory)) where
     work-length : length (workIn limit d call q .window) ≡ ringOf d q .window .length
-    unfolding WindowStays EachWork
-    work-length = stays _ _ _ _ _ _ _ _ ∙ window-length (ringOf d q .window .start) (ringOf d q .window .length) (call .memory) fits
+    work-length = window-stays _ _ _ _ _ _ _ _ ∙ window-length (ringOf d q .window .start) (ringOf d q .window .length) (call .memory) fits
 
     served-long : length (servedIn limit d call q .memory) ≡ length (call .memory)
     unfolding servedOf
@@ -60,17 +60,17 @@ module _ (stays : WindowStays) (pipe-stays : PipeStays) (faults-keep : FaultsKee
 
     served-faults : 1 ≤ outcomeNumber (workIn limit d call q .performed .outcome) → outcomeNumber (workIn limit d call q .performed .outcome) ≤ 10
         → SameBytes d call (servedIn limit d call q)
-    unfolding servedOf finished FaultsKeep EachWork
+    unfolding servedOf finished
     served-faults low high =
-        let kept = faults-keep _ _ _ _ _ _ _ _ low high in
+        let kept = work.unchanged _ _ _ _ _ _ _ _ low high in
         record {
-          memory = rw (kept .window) (put-back-window (ringOf d q .window .start) (ringOf d q .window .length) (call .memory) fits);
-          pipe = kept .pipe;
-          frame = after-frames d q _ _ (kept .frame);
+          memory = rw (kept .0) (put-back-window (ringOf d q .window .start) (ringOf d q .window .length) (call .memory) fits);
+          pipe = kept .1;
+          frame = after-frames d q _ _ (kept .2);
         }
 
   served-pipe : (q : ℕ) → PipeKept (wordsRead (headIn d call q) (workIn limit d call q .performed .outcome)) (call .pipe) (servedIn limit d call q .pipe)
-  unfolding servedOf PipeStays EachWork
+  unfolding servedOf
   served-pipe q = pipe-stays _ _ _ _ _ _ _ _
 
   pub keeps : Keeps limit d call
@@ -94,9 +94,9 @@ module _ (stays : WindowStays) (pipe-stays : PipeStays) (faults-keep : FaultsKee
         rw (was .after) (subst kept (was .told) (served-pipe (report .ring)));
   }
 
-pub turn-keeps : WindowStays → PipeStays → FaultsKeep → TurnKeeps
+pub turn-keeps : TurnKeeps
 unfolding TurnKeeps
-turn-keeps stays pipe-stays faults-keep limit d call = keeps stays pipe-stays faults-keep limit d call
+turn-keeps limit d call = keeps limit d call
 
 pub fresh-makes : FreshMakes
 unfolding FreshMakes freshOf either refusalNumber

@@ -1,5 +1,6 @@
 pub mod Turns
 pub mod Devices
+pub mod Works
 pub mod Walks
 pub mod FourTurns
 pub mod Keeps
@@ -9,7 +10,6 @@ pub mod Sums
 pub mod Bounded
 pub mod Orders
 pub mod Idle
-pub mod Works
 pub mod Demands
 pub mod Table
 pub mod OneAnswer

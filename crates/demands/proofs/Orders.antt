@@ -12,9 +12,8 @@ use borrow.Author.Tests.{eq-eqb, ne-eqb}
 use Rattle.command.specs.declared.header.Command.{Command}
 use Rattle.command.specs.Choice.{either}
 use Rattle.command.proofs.Sizes.{size-least}
-use Rattle.demands.specs.Performs.{isEmitting}
 use Rattle.demands.specs.Bounded.{sumOfFour}
-use Rattle.demands.specs.Idle.{placeOf, nth, emitsIn, countOf, oneMore}
+use Rattle.demands.specs.Idle.{placeOf, nth, isEmitting, emitsIn, countOf, oneMore}
 use Rattle.demands.proofs.Sums.{sum-grows, sum-most}
 
 -- 1 if the command emits to the slot, else 0

@@ -1,6 +1,6 @@
 -- What is reported of a served command, and what it changes in the device.
--- Assumes that a full slot is never added to, and any other exactly by a command that emits.
-use mathlib.Core.Path.{_≡_, refl, ap, subst}
+-- Assumes nothing.
+use mathlib.Core.Path.{_≡_, refl, ap, subst, _∙_}
 use mathlib.Core.Bool.{Bool, true, false, _&&_, _||_}
 use mathlib.Core.Logic.{_⊎_, _↔_, inl, inr, ⊎-elim}
 use Prim.Native.Nat.{ℕ, _+_, _^_, _<_}
@@ -16,6 +16,7 @@ use Rattle.command.specs.Flags.{irqBit, emitBit}
 use Rattle.command.specs.Opcode.{readMem}
 use Rattle.command.specs.Outcome.{outcomeNumber, isDone}
 use Rattle.command.specs.Report.{emits, interrupts, wordsRead}
+use Rattle.command.specs.Work.{heldBy}
 use Rattle.command.proofs.Choices.{both-left, both-right}
 use Rattle.device.specs.declared.state.Device.{Device}
 use Rattle.device.specs.declared.turn.Report.{Report}
@@ -24,9 +25,9 @@ use Rattle.device.specs.Ready.{readyAt, pickOf}
 use Rattle.device.specs.Turn.{fenceOf, ringAfter, deviceAfter, finished, servedOf}
 use Rattle.device.proofs.Verdicts.{found}
 use Rattle.demands.specs.Calls.{ringIn, headIn, deviceOf, SlotsFit, Formed}
-use Rattle.demands.specs.Performs.{EachWork, FullSlotStays, EmitsWhenSound}
-use Rattle.demands.specs.Reports.{Signals, Interrupts, Reads, Reported, TurnReports}
+use Rattle.demands.specs.Reports.{Signals, Interrupts, Reads, SetsFrame, Reported, TurnReports}
 use Rattle.demands.proofs.Turns.{workIn, was-served, marker-below}
+use Rattle.demands.proofs.Works.{full-slot-stays, frame-set, frame-kept}
 use Rattle.demands.proofs.Devices.{after-marker, after-other-ring, after-ring, after-emit, after-no-emit, after-other-slot, after-formed}
 use Rattle.demands.proofs.Emitting.{emits-in-range}
 
@@ -71,7 +72,8 @@ module _ (c : Command) (o : Outcome) where
       rw (not-held (is && isDone o) (λ e. not (eqb-true _ _ (both-left is (isDone o) e), eqb-true _ _ (both-right is (isDone o) e))))
 
 module _ (d : Device) (q : ℕ) (c : Command) (p : Performed) (formed : Formed d) (four : q < 4)
-    (full : emits c (p .outcome) ≡ true → slotOf d (c .rdst) ≡ 4294967295 → ⊥) (range : emits c (p .outcome) ≡ true → c .rdst < 64) where
+    (full : emits c (p .outcome) ≡ true → slotOf d (c .rdst) ≡ 4294967295 → ⊥) (range : emits c (p .outcome) ≡ true → c .rdst < 64)
+    (sets : SetsFrame c (p .outcome) → p .frame ≡ heldBy c) (kept : (SetsFrame c (p .outcome) → ⊥) → p .frame ≡ ringOf d q .frame) where
   abbrev told : Report
   told = record {
     ring = q;
@@ -118,25 +120,27 @@ module _ (d : Device) (q : ℕ) (c : Command) (p : Performed) (formed : Formed d
     irq = interrupts-when c (p .outcome);
     cursor = ap (λ r. r .cursor) moved;
     window = ap (λ r. r .window) moved;
+    frame-set = λ s. ap (λ r. r .frame) moved ∙ sets s;
+    frame = λ not. ap (λ r. r .frame) moved ∙ kept not;
     other-rings = after-other-ring d q c p;
     marker = after-marker d q c p;
   }
 
-module _ (full : FullSlotStays) (when : EmitsWhenSound) where
-  pub turn-reports : TurnReports
-  unfolding TurnReports servedOf finished pickOf EachWork FullSlotStays
-  turn-reports limit d call report formed e =
-      let was = was-served limit d call report e in
-      let q = report .ring in
-      let c = headIn d call q in
-      let p = workIn limit d call q .performed in
-      let picked = found (λ r. readyAt d r (ringIn call r)) 4 (d .marker) q (marker-below d call (was .sound)) (was .pick) in
-      record {
-        ring = picked .0;
-        ready = picked .1;
-        reported =
-            rw (deviceOf, was .after)
-            (subst (λ (r : Report). Reported d q c r (deviceAfter d q c p)) (was .told)
-            (reported d q c p formed (picked .0) (full _ _ _ _ _ _ _ _) (emits-in-range full when _ _ _ _ _ _ _ _)));
-        formed = rw (deviceOf, was .after) (after-formed d q c p formed);
-      }
+pub turn-reports : TurnReports
+unfolding TurnReports servedOf finished pickOf
+turn-reports limit d call report formed e =
+    let was = was-served limit d call report e in
+    let q = report .ring in
+    let c = headIn d call q in
+    let p = workIn limit d call q .performed in
+    let picked = found (λ r. readyAt d r (ringIn call r)) 4 (d .marker) q (marker-below d call (was .sound)) (was .pick) in
+    record {
+      ring = picked .0;
+      ready = picked .1;
+      reported =
+          rw (deviceOf, was .after)
+          (subst (λ (r : Report). Reported d q c r (deviceAfter d q c p)) (was .told)
+          (reported d q c p formed (picked .0) (full-slot-stays _ _ _ _ _ _ _ _) (emits-in-range _ _ _ _ _ _ _ _)
+          (frame-set _ _ _ _ _ _ _ _) (frame-kept _ _ _ _ _ _ _ _)));
+      formed = rw (deviceOf, was .after) (after-formed d q c p formed);
+    }

@@ -1,14 +1,13 @@
--- What the demands rest on of a command's work holds of it.
+-- What the demands rest on of a command's work.
 -- Assumes nothing.
 use mathlib.Core.Path.{_≡_, refl, sym, ap, _∙_}
 use mathlib.Core.Bool.{Bool, true, false, _&&_}
 use mathlib.Core.List.{List}
-use mathlib.Core.Logic.{_⊎_, inl, inr}
+use mathlib.Core.Logic.{inr}
 use Prim.Native.Nat.{ℕ, _+_, _*_, _≤_}
 use native.Mathlib.Omega.{arith}
 use lib.ListN.{length, getD}
-use lib.Dec.{eqb}
-use borrow.Author.Tests.{ne-eqb}
+use borrow.Author.Tests.{ne-eqb, eqb-false}
 use Rattle.memory.proofs.Others.{transferred-other}
 use Rattle.command.specs.declared.header.Command.{Command}
 use Rattle.command.specs.declared.frame.Frame.{Frame}
@@ -19,15 +18,17 @@ use Rattle.command.specs.Faults.{headerFault}
 use Rattle.command.specs.Checks.{slotFault}
 use Rattle.command.specs.Outcome.{outcomeNumber, isDone}
 use Rattle.command.specs.Opcode.{readMem}
-use Rattle.command.specs.Report.{wordsRead}
-use Rattle.command.specs.Work.{Left, leaves, afterDispatch, dispatchedBy}
+use Rattle.command.specs.Report.{emits, wordsRead}
+use Rattle.command.specs.Work.{Left, leaves, afterDispatch, dispatchedBy, heldBy}
 use Rattle.command.specs.Perform.{performedOf}
 use Rattle.command.proofs.Choices.{both-left, both-right}
 use Rattle.command.proofs.Performs.{performed-has}
-use Rattle.command.proofs.Works.{work-has}
+use Rattle.command.proofs.Works.{work-has, work-set}
 use Rattle.command.proofs.Kept.{performed-lengths}
-use Rattle.command.proofs.Reports.{unchanged, emits-when}
-use Rattle.demands.specs.Performs.{isEmitting, EachWork, FullSlotStays, EmitsWhenSound, WindowStays, PipeKept, PipeStays, Untouched, FaultsKeep}
+use Rattle.command.proofs.Reports.{emits-when}
+use Rattle.demands.specs.Idle.{isEmitting}
+use Rattle.demands.specs.Keeps.{PipeKept}
+use Rattle.demands.specs.Reports.{SetsFrame}
 
 -- a full slot is a fault of a command with its emit bit set
 full-faulty : (c : Command) (slot : ℕ) → emitBit (c .flags) ≡ true → slot ≡ 4294967295 → isDone (slotFault c slot) ≡ false
@@ -44,66 +45,95 @@ free-fine : (c : Command) (slot : ℕ) → (slot ≡ 4294967295 → ⊥) → isD
 unfolding slotFault
 free-fine c slot free = rw (ne-eqb slot 4294967295 free) (not-full (emitBit (c .flags)))
 
-pub full-slot-stays : FullSlotStays
-unfolding FullSlotStays EachWork
-full-slot-stays c slot ring window frame pack pipe limit e full =
-    let on = sym (emits-when c slot ring window frame pack pipe limit) ∙ e in
-    let bit = both-left (emitBit (c .flags)) (isDone (headerFault c) && isDone (slotFault c slot)) on in
-    let fine = both-right (isDone (headerFault c)) (isDone (slotFault c slot)) (both-right (emitBit (c .flags)) _ on) in
-    let faulty = full-faulty c slot bit full in
-    let z : _≡_ {A = ℕ} 0 1 = cc in omega arith
-
 and-true : (b : Bool) → (b && true) ≡ b
 and-true true = refl
 and-true false = refl
-
-pub emits-when-sound : EmitsWhenSound
-unfolding EmitsWhenSound EachWork isEmitting
-emits-when-sound c slot ring window frame pack pipe limit free =
-    emits-when c slot ring window frame pack pipe limit
-    ∙ ap (λ s. emitBit (c .flags) && (isDone (headerFault c) && s)) (free-fine c slot free)
-    ∙ ap (λ h. emitBit (c .flags) && h) (and-true (isDone (headerFault c)))
-
-pub window-stays : WindowStays
-unfolding WindowStays EachWork
-window-stays c slot ring window frame pack pipe limit = performed-lengths c slot ring window frame pack pipe limit .0
-
--- a pipe that was not written to
-as-it-was : (words : ℕ) (pipe : List ℕ) → PipeKept words pipe pipe
-as-it-was words pipe = record { long = refl; rest = λ i h. refl }
 
 -- what a READ_MEM reads
 read-words : (c : Command) → c .opcode ≡ readMem → wordsRead c Outcome.Done ≡ c .len
 unfolding wordsRead either outcomeNumber
 read-words c e = rw e
 
-pub pipe-stays : PipeStays
-unfolding PipeStays EachWork leaves afterDispatch dispatchedBy
-pipe-stays c slot ring window frame pack pipe limit = record {
-  long = performed-lengths c slot ring window frame pack pipe limit .1;
-  rest =
-      performed-has c slot ring window frame pack pipe limit Rest
+module _ (c : Command) (slot : ℕ) (ring window : List ℕ) (frame : Frame) (pack pipe : List ℕ) (limit : ℕ) where
+  abbrev work : Left
+  work = performedOf c slot ring window frame pack pipe limit
+
+  abbrev outcome : Outcome
+  outcome = work .performed .outcome
+
+  -- a slot that holds 4,294,967,295 is never added to
+  pub full-slot-stays : emits c outcome ≡ true → slot ≡ 4294967295 → ⊥
+  full-slot-stays e full =
+      let on = sym (emits-when c slot ring window frame pack pipe limit) ∙ e in
+      let bit = both-left (emitBit (c .flags)) (isDone (headerFault c) && isDone (slotFault c slot)) on in
+      let fine = both-right (isDone (headerFault c)) (isDone (slotFault c slot)) (both-right (emitBit (c .flags)) _ on) in
+      let faulty = full-faulty c slot bit full in
+      let z : _≡_ {A = ℕ} 0 1 = cc in omega arith
+
+  -- unless its slot is full, a command adds to it exactly if it is one that emits
+  pub emits-when-sound : (slot ≡ 4294967295 → ⊥) → emits c outcome ≡ isEmitting c
+  unfolding isEmitting
+  emits-when-sound free =
+      emits-when c slot ring window frame pack pipe limit
+      ∙ ap (λ s. emitBit (c .flags) && (isDone (headerFault c) && s)) (free-fine c slot free)
+      ∙ ap (λ h. emitBit (c .flags) && h) (and-true (isDone (headerFault c)))
+
+  -- the window keeps its length
+  pub window-stays : length (work .window) ≡ length window
+  window-stays = performed-lengths c slot ring window frame pack pipe limit .0
+
+  -- the pipe's bytes past the words read stay
+  abbrev Rest : Left → Type 0
+  Rest l = (i : ℕ) → 4 * wordsRead c (l .performed .outcome) ≤ i → getD (l .pipe) i 0 ≡ getD pipe i 0
+
+  read-end : c .opcode ≡ readMem → (i : ℕ) → 4 * wordsRead c Outcome.Done ≤ i → 0 + 4 * c .len ≤ i
+  read-end e i h = omega (arith, read-words c e)
+
+  pub pipe-stays : PipeKept (wordsRead c outcome) pipe (work .pipe)
+  unfolding leaves afterDispatch dispatchedBy
+  pipe-stays = record {
+    long = performed-lengths c slot ring window frame pack pipe limit .1;
+    rest =
+        performed-has c slot ring window frame pack pipe limit Rest
+        (λ fine.
+        work-has c ring window frame pack pipe limit Rest
+        (λ e i h. refl)
+        (λ e i h. transferred-other pipe i window (c .arg0) 0 (4 * c .len) (inr (read-end e i h)))
+        (λ e i h. refl)
+        (λ e i h. refl)
+        (λ e i h. refl)
+        (λ e i h. refl)
+        (λ e i h. refl)
+        (λ i h. refl))
+        (λ faulty i h. refl);
+  }
+
+  -- a SET_FB with outcome 0 leaves the frame of its arguments
+  pub frame-set : SetsFrame c outcome → work .performed .frame ≡ heldBy c
+  unfolding leaves
+  frame-set sets =
+      performed-has c slot ring window frame pack pipe limit
+      (λ l. outcomeNumber (l .performed .outcome) ≡ 0 → l .performed .frame ≡ heldBy c)
+      (λ fine done. rw (work-set c ring window frame pack pipe limit (sets .0)))
+      (λ faulty done. absurd (eqb-false _ _ faulty done))
+      (sets .1)
+
+  -- every other command leaves the frame as it was
+  abbrev FrameKept : Left → Type 0
+  FrameKept l = (SetsFrame c (l .performed .outcome) → ⊥) → l .performed .frame ≡ frame
+
+  pub frame-kept : FrameKept work
+  unfolding leaves afterDispatch outcomeNumber
+  frame-kept =
+      performed-has c slot ring window frame pack pipe limit FrameKept
       (λ fine.
-      work-has c ring window frame pack pipe limit Rest
-      (λ e i h. refl)
-      (λ e i h. transferred-other pipe i window (c .arg0) 0 (4 * c .len) (inr (read-end e i h)))
-      (λ e i h. refl)
-      (λ e i h. refl)
-      (λ e i h. refl)
-      (λ e i h. refl)
-      (λ e i h. refl)
-      (λ i h. refl))
-      (λ faulty i h. refl);
-}
-  where
-    Rest : Left → Type 0
-    Rest l = (i : ℕ) → 4 * wordsRead c (l .performed .outcome) ≤ i → getD (l .pipe) i 0 ≡ getD pipe i 0
-
-    read-end : c .opcode ≡ readMem → (i : ℕ) → 4 * wordsRead c Outcome.Done ≤ i → 0 + 4 * c .len ≤ i
-    read-end e i h = omega (arith, read-words c e)
-
-pub faults-keep : FaultsKeep
-unfolding FaultsKeep EachWork
-faults-keep c slot ring window frame pack pipe limit low high =
-    let same = unchanged c slot ring window frame pack pipe limit low high in
-    record { window = same .0; frame = same .2; pipe = same .1 }
+      work-has c ring window frame pack pipe limit FrameKept
+      (λ e not. refl)
+      (λ e not. refl)
+      (λ e not. refl)
+      (λ e not. refl)
+      (λ e not. refl)
+      (λ e not. refl)
+      (λ e not. absurd (not (e, refl)))
+      (λ not. refl))
+      (λ faulty not. refl)

@@ -1,12 +1,15 @@
 -- Demand 3, second part: when the answer is idle, no order of starts gets further than the device did.
 use Prim.Native.Nat.{ℕ, zero, suc, _+_, _≤_, _<_}
 use mathlib.Core.Path.{_≡_}
-use mathlib.Core.Bool.{true, _&&_}
+use mathlib.Core.Bool.{Bool, true, _&&_}
 use mathlib.Core.List.{List, [], _∷_}
 use lib.Dec.{eqb}
 use Rattle.command.specs.declared.header.Command.{Command}
 use Rattle.command.specs.Choice.{either}
+use Rattle.command.specs.Flags.{emitBit}
+use Rattle.command.specs.Faults.{headerFault}
 use Rattle.command.specs.Header.{commandAt, isWhole}
+use Rattle.command.specs.Outcome.{isDone}
 use Rattle.device.specs.declared.state.Window.{Window}
 use Rattle.device.specs.declared.state.Device.{Device}
 use Rattle.device.specs.declared.turn.Answer.the-variants.{Idle}
@@ -14,7 +17,6 @@ use Rattle.device.specs.State.{freshDevice}
 use Rattle.device.specs.Ready.{readyWith}
 use Rattle.device.specs.Turn.{Call}
 use Rattle.demands.specs.Calls.{answerOf, deviceOf, EachHeard}
-use Rattle.demands.specs.Performs.{isEmitting}
 use Rattle.demands.specs.Bounded.{Lends, sumOfFour, taken}
 
 -- where the n-th command of a ring begins
@@ -25,6 +27,10 @@ placeOf b (suc n) = placeOf b n + commandAt b (placeOf b n) .size
 -- the n-th command of a ring
 abbrev pub nth : List ℕ → ℕ → Command
 nth b n = commandAt b (placeOf b n)
+
+-- a command that emits: its emit bit is set and it has no header fault
+unfoldable pub isEmitting : Command → Bool
+isEmitting c = emitBit (c .flags) && isDone (headerFault c)
 
 -- how many of a ring's first n commands emit to a slot: a plain count
 unfoldable pub emitsIn : List ℕ → ℕ → ℕ → ℕ

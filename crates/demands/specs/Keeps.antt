@@ -1,7 +1,8 @@
 -- Demand 1: what a turn leaves as it was.
-use Prim.Native.Nat.{ℕ, _+_, _≤_, _<_}
+use Prim.Native.Nat.{ℕ, _+_, _*_, _≤_, _<_}
 use mathlib.Core.Path.{_≡_}
 use mathlib.Core.Bool.{true, false}
+use mathlib.Core.List.{List}
 use mathlib.Core.Logic.{_⊎_}
 use lib.ListN.{length, getD}
 use Rattle.command.specs.Outcome.{outcomeNumber}
@@ -16,7 +17,6 @@ use Rattle.device.specs.State.{emptyWindow, freshDevice, ringOf}
 use Rattle.device.specs.Refusal.{refusalNumber, memoryFits}
 use Rattle.device.specs.Fresh.{freshOf}
 use Rattle.device.specs.Turn.{Call, After, turnOf}
-use Rattle.demands.specs.Performs.{PipeKept}
 use Rattle.demands.specs.Calls.{answerOf, isRefused}
 
 -- device, memory and pipe are as they were
@@ -34,6 +34,11 @@ pub record SameBytes (d : Device) (call : Call) (after : After) : Type 0 where
 -- place i is outside the window
 abbrev pub OutsideOf : Window → ℕ → Type 0
 OutsideOf window i = (i < window .start) ⊎ (window .start + window .length ≤ i)
+
+-- the pipe keeps its length, and its bytes past the words read
+pub record PipeKept (words : ℕ) (pipe₀ pipe₁ : List ℕ) : Type 0 where
+  pub long : length pipe₁ ≡ length pipe₀
+  pub rest : (i : ℕ) → 4 * words ≤ i → getD pipe₁ i 0 ≡ getD pipe₀ i 0
 
 -- of a turn on any input
 pub record Keeps (limit : ℕ) (d : Device) (call : Call) : Type 0 where

@@ -1,4 +1,3 @@
-pub mod Performs
 pub mod Calls
 pub mod Keeps
 pub mod Reports

@@ -6,8 +6,9 @@ use mathlib.Core.Logic.{_⊎_, _↔_}
 use Rattle.command.specs.declared.header.Command.{Command}
 use Rattle.command.specs.declared.outcome.Outcome.{Outcome}
 use Rattle.command.specs.Flags.{irqBit, emitBit}
-use Rattle.command.specs.Opcode.{readMem}
+use Rattle.command.specs.Opcode.{readMem, setFb}
 use Rattle.command.specs.Outcome.{outcomeNumber}
+use Rattle.command.specs.Work.{heldBy}
 use Rattle.device.specs.declared.state.Device.{Device}
 use Rattle.device.specs.declared.turn.Report.{Report}
 use Rattle.device.specs.declared.turn.Answer.the-variants.{Served}
@@ -28,6 +29,10 @@ Interrupts c o = (irqBit (c .flags) ≡ true) × ((outcomeNumber o ≡ 0) ⊎ (4
 abbrev pub Reads : Command → Outcome → Type 0
 Reads c o = (c .opcode ≡ readMem) × (outcomeNumber o ≡ 0)
 
+-- a SET_FB with outcome 0
+abbrev pub SetsFrame : Command → Outcome → Type 0
+SetsFrame c o = (c .opcode ≡ setFb) × (outcomeNumber o ≡ 0)
+
 -- command c of ring q had this report, and left the device so
 pub record Reported (d : Device) (q : ℕ) (c : Command) (report : Report) (after : Device) : Type 0 where
   -- a fence is one more than its slot held, and the slot holds it now
@@ -46,6 +51,9 @@ pub record Reported (d : Device) (q : ℕ) (c : Command) (report : Report) (afte
   -- the cursor moves past the command, and the window stays
   pub cursor : ringOf after q .cursor ≡ ringOf d q .cursor + c .size
   pub window : ringOf after q .window ≡ ringOf d q .window
+  -- a SET_FB with outcome 0 leaves the ring the frame of its arguments; every other command leaves the frame as it was
+  pub frame-set : SetsFrame c (report .outcome) → ringOf after q .frame ≡ heldBy c
+  pub frame : (SetsFrame c (report .outcome) → ⊥) → ringOf after q .frame ≡ ringOf d q .frame
   -- the other rings stay
   pub other-rings : (n : ℕ) → (n ≡ q → ⊥) → ringOf after n ≡ ringOf d n
   -- the marker is the ring after the served one
