@@ -1,56 +1,147 @@
 -- Demand 2, down to each step: a dispatch that is served is its threads in order, each its steps in order, each
 -- step the instruction's rule.
-use Prim.Native.Nat.{ℕ, suc, _+_, _*_, _<_}
+use Prim.Native.Nat.{ℕ, suc, _+_, _*_, _≤_, _<_}
 use mathlib.Core.Path.{_≡_}
-use mathlib.Core.Bool.{true}
+use mathlib.Core.Bool.{true, false}
 use mathlib.Core.List.{List}
 use lib.ListN.{length}
+use Rattle.words.specs.Arithmetic.{sum}
+use Rattle.memory.specs.declared.access.Width.{Width}
+use Rattle.memory.specs.declared.quad.Quad.{Quad}
+use Rattle.memory.specs.declared.address.Reach.the-variants.{Outside}
+use Rattle.memory.specs.Access.{bytesOf}
+use Rattle.memory.specs.Address.{reachOf}
 use Rattle.memory.specs.Place.{wordAt}
+use Rattle.memory.specs.Window.{windowOf, putBack}
 use Rattle.instruction.specs.declared.list.Instr.{Instr}
-use Rattle.instruction.specs.Decode.{decoded}
+use Rattle.instruction.specs.declared.list.Op.the-variants.{Load, Vld, Unlisted}
+use Rattle.instruction.specs.declared.effect.Stop.{Stop}
+use Rattle.instruction.specs.declared.effect.Stop.the-variants.{NotListed, OffTheKernel, OutsideTheWindow, OutOfSteps}
+use Rattle.instruction.specs.declared.effect.Effect.the-variants.{Store, StoreQuad, Go, Stop as StopFor}
+use Rattle.instruction.specs.Decode.{opOf, decoded}
 use Rattle.instruction.specs.Effect.{effectOf}
 use Rattle.kernel.specs.declared.pack.Kernel.{Kernel}
 use Rattle.kernel.specs.declared.thread.Thread.{Thread}
+use Rattle.kernel.specs.declared.step.Progress.the-variants.{Ended, Stopped}
+use Rattle.kernel.specs.declared.dispatch.Ran.the-variants.{Stopped as StoppedFor}
 use Rattle.kernel.specs.Pack.{kernelOf}
 use Rattle.kernel.specs.Registers.{scalarOf}
 use Rattle.kernel.specs.Thread.{started}
-use Rattle.kernel.specs.Step.{applied, executed, stepOf}
-use Rattle.kernel.specs.Run.{stepMore, stepsOf, runOf}
-use Rattle.kernel.specs.Dispatch.{shown, threadOf, threadMore, threadsOf, dispatchOf}
-use Rattle.command.specs.declared.header.Command.{Command}
-use Rattle.command.specs.declared.frame.Frame.{Frame}
+use Rattle.kernel.specs.Step.{State, stops, lands, applied, executed, stepOf}
+use Rattle.kernel.specs.Run.{running, stepsOf, runOf}
+use Rattle.kernel.specs.Dispatch.{Dispatched, shown, going, threadOf, threadsOf}
 use Rattle.command.specs.Opcode.{dispatch1D}
-use Rattle.command.specs.Outcome.{isDone}
-use Rattle.command.specs.Work.{afterDispatch}
-use Rattle.command.specs.Perform.{faultOf, performedOf}
+use Rattle.command.specs.Outcome.{outcomeNumber, isDone}
+use Rattle.command.specs.Work.{ranOutcome}
+use Rattle.command.specs.Perform.{faultOf}
+use Rattle.device.specs.declared.state.Device.{Device}
+use Rattle.device.specs.declared.turn.Report.{Report}
+use Rattle.device.specs.declared.turn.Answer.the-variants.{Served}
+use Rattle.device.specs.State.{ringOf, slotOf}
+use Rattle.device.specs.Turn.{Call, turnOf}
+use Rattle.demands.specs.Calls.{headIn, answerOf}
 
-pub record StepByStep (limit : ℕ) (pack : List ℕ) : Type 0 where
-  -- a DISPATCH_1D with no fault leaves what its dispatch leaves
-  pub command : (c : Command) (slot : ℕ) (ring window : List ℕ) (frame : Frame) (pipe : List ℕ) → c .opcode ≡ dispatch1D
-      → isDone (faultOf c slot (length window) frame pack) ≡ true
-      → performedOf c slot ring window frame pack pipe limit ≡ afterDispatch frame pipe (dispatchOf limit pack (c .arg2) (c .arg0) (c .arg1) window)
-  -- a dispatch is groups · threads threads
-  pub threads : (k groups threads : ℕ) (window : List ℕ)
-      → dispatchOf limit pack k groups threads window ≡ threadsOf (groups * threads) limit pack (kernelOf pack k) groups threads window
-  -- one after another
-  pub thread : (kernel : Kernel) (groups threads n : ℕ) (window : List ℕ)
-      → threadsOf (suc n) limit pack kernel groups threads window
-      ≡ threadMore limit pack kernel groups threads n (threadsOf n limit pack kernel groups threads window)
+-- ring q's window of the memory that a call lends
+abbrev pub windowIn : Device → Call → ℕ → List ℕ
+windowIn d call q = windowOf (ringOf d q .window .start) (ringOf d q .window .length) (call .memory)
+
+-- ring q's head command is a DISPATCH_1D with no fault
+pub record Dispatches (d : Device) (call : Call) (q : ℕ) : Type 0 where
+  pub opcode : headIn d call q .opcode ≡ dispatch1D
+  pub no-fault : isDone (faultOf (headIn d call q) (slotOf d (headIn d call q .rdst)) (length (windowIn d call q)) (ringOf d q .frame) (call .pack)) ≡ true
+
+-- its threads, arg0 groups of arg1, in kernel arg2, on its ring's window
+abbrev pub threadsIn : ℕ → Device → Call → ℕ → Dispatched
+threadsIn limit d call q =
+    let c = headIn d call q in
+    threadsOf (c .arg0 * c .arg1) limit (call .pack) (kernelOf (call .pack) (c .arg2)) (c .arg0) (c .arg1) (windowIn d call q)
+
+-- the turn leaves what the threads leave: the window is put back, and the outcome is theirs
+pub record Leaves (limit : ℕ) (d : Device) (call : Call) (report : Report) (threads : Dispatched) : Type 0 where
+  pub memory : turnOf limit d call .memory ≡ putBack (ringOf d (report .ring) .window .start) (threads .window) (call .memory)
+  pub pipe : turnOf limit d call .pipe ≡ call .pipe
+  pub outcome : report .outcome ≡ ranOutcome (threads .ran)
+
+-- the threads one after another
+pub record ThreadsInOrder (limit : ℕ) (pack : List ℕ) (kernel : Kernel) (groups threads : ℕ) (window : List ℕ) : Type 0 where
+  -- before the first, nothing has stopped and the window is as it was
+  pub none : threadsOf 0 limit pack kernel groups threads window ≡ going window
+  -- the next runs on the window that those before it left
+  pub next : (n : ℕ) (window′ : List ℕ) → threadsOf n limit pack kernel groups threads window ≡ going window′
+      → threadsOf (suc n) limit pack kernel groups threads window ≡ threadOf limit pack kernel groups threads n window′
+  -- a stop ends the whole dispatch
+  pub stop : (n : ℕ) (why : Stop) → threadsOf n limit pack kernel groups threads window .ran ≡ StoppedFor why
+      → threadsOf (suc n) limit pack kernel groups threads window ≡ threadsOf n limit pack kernel groups threads window
   -- thread j of group g is number g · threads + j, and its result is its run's
-  pub number : (kernel : Kernel) (groups threads g j : ℕ) (window : List ℕ) → j < threads
-      → threadOf limit pack kernel groups threads (g * threads + j) window ≡ shown (runOf limit pack kernel (started g j threads groups) window)
-  -- a run is its steps, the limit's and one that stops a thread still running
-  pub run : (kernel : Kernel) (t : Thread) (window : List ℕ) → runOf limit pack kernel t window ≡ stepsOf (limit + 1) limit pack kernel t window
-  -- one after another
-  pub step : (kernel : Kernel) (t : Thread) (window : List ℕ) (n : ℕ)
-      → stepsOf (suc n) limit pack kernel t window ≡ stepMore limit pack kernel (stepsOf n limit pack kernel t window)
-  -- a step within the limit and the kernel is the instruction that stands there
-  pub instruction : (kernel : Kernel) (t : Thread) (window : List ℕ) → t .steps < limit → t .place < kernel .length
+  pub number : (g j : ℕ) (window′ : List ℕ) → j < threads
+      → threadOf limit pack kernel groups threads (g * threads + j) window′
+      ≡ shown (runOf limit pack kernel (started g j threads groups) window′)
+
+-- a thread's steps one after another
+pub record StepsInOrder (limit : ℕ) (pack : List ℕ) (kernel : Kernel) (t : Thread) (window : List ℕ) : Type 0 where
+  -- a run is the limit's steps, and one that stops a thread still running
+  pub run : runOf limit pack kernel t window ≡ stepsOf (limit + 1) limit pack kernel t window
+  -- before the first, the thread is as it was, running
+  pub none : stepsOf 0 limit pack kernel t window ≡ running t window
+  -- the next is a step of the thread and the window that those before it left
+  pub next : (n : ℕ) (t′ : Thread) (window′ : List ℕ) → stepsOf n limit pack kernel t window ≡ running t′ window′
+      → stepsOf (suc n) limit pack kernel t window ≡ stepOf limit pack kernel t′ window′
+  -- a thread that has ended or stopped takes no more
+  pub end : (n : ℕ) → stepsOf n limit pack kernel t window .stepped .progress ≡ Ended
+      → stepsOf (suc n) limit pack kernel t window ≡ stepsOf n limit pack kernel t window
+  pub stop : (n : ℕ) (why : Stop) → stepsOf n limit pack kernel t window .stepped .progress ≡ Stopped why
+      → stepsOf (suc n) limit pack kernel t window ≡ stepsOf n limit pack kernel t window
+
+-- the thread has stopped, and it and the window are as they were
+abbrev pub stoppedAs : Stop → Thread → List ℕ → State
+stoppedAs why t window = record { stepped = stops why t; window = window }
+
+-- one step: 14, then running off the end (12), then 11, then the branch (12) or address (13)
+pub record StepByRule (limit : ℕ) (pack : List ℕ) (kernel : Kernel) (t : Thread) (window : List ℕ) : Type 0 where
+  -- a thread that already took the limit's steps
+  pub at-the-limit : limit ≤ t .steps → stepOf limit pack kernel t window ≡ stoppedAs OutOfSteps t window
+  -- else one that ran off the kernel's end
+  pub off-the-end : t .steps < limit → kernel .length ≤ t .place → stepOf limit pack kernel t window ≡ stoppedAs OffTheKernel t window
+  -- else a word that is not in the list
+  pub not-listed : t .steps < limit → t .place < kernel .length → opOf (wordAt pack (kernel .start + t .place)) ≡ Unlisted
+      → stepOf limit pack kernel t window ≡ stoppedAs NotListed t window
+  -- else the instruction that stands there
+  pub instruction : t .steps < limit → t .place < kernel .length
       → stepOf limit pack kernel t window ≡ executed (kernel .length) (decoded (wordAt pack (kernel .start + t .place))) t window
-  -- an instruction's rule goes by the values of its operands
-  pub rule : (length : ℕ) (i : Instr) (t : Thread) (window : List ℕ)
-      → executed length i t window
-      ≡ applied length (i .rd) (effectOf (i .op) (scalarOf (t .registers) (i .rs1)) (scalarOf (t .registers) (i .rs2)) (t .registers .vectors) window) t window
+  -- whose rule goes by the values of its operands
+  pub rule : (i : Instr)
+      → executed (kernel .length) i t window
+      ≡ applied (kernel .length) (i .rd) (effectOf (i .op) (scalarOf (t .registers) (i .rs1)) (scalarOf (t .registers) (i .rs2)) (t .registers .vectors) window) t window
+  -- a taken branch to no place of the kernel
+  pub branch : (rd offset : ℕ) → lands (kernel .length) (sum 32 (t .place) offset) ≡ false
+      → applied (kernel .length) rd (Go offset) t window ≡ stoppedAs OffTheKernel t window
+  -- a store not wholly in the window
+  pub store : (rd : ℕ) (width : Width) (a x : ℕ) → reachOf (length window) a (bytesOf width) ≡ Outside
+      → applied (kernel .length) rd (Store width a x) t window ≡ stoppedAs OutsideTheWindow t window
+  pub store-quad : (rd a : ℕ) (q : Quad) → reachOf (length window) a 16 ≡ Outside
+      → applied (kernel .length) rd (StoreQuad a q) t window ≡ stoppedAs OutsideTheWindow t window
+  -- a load not wholly in the window
+  pub load : (width : Width) (imm x y : ℕ) (vectors : List ℕ) → reachOf (length window) (sum 32 x imm) (bytesOf width) ≡ Outside
+      → effectOf (Load width imm) x y vectors window ≡ StopFor OutsideTheWindow
+  pub load-quad : (vd x y : ℕ) (vectors : List ℕ) → reachOf (length window) x 16 ≡ Outside
+      → effectOf (Vld vd) x y vectors window ≡ StopFor OutsideTheWindow
+
+-- the number of the outcome that a stop gives
+abbrev pub stopNumber : Stop → ℕ
+stopNumber why = outcomeNumber (ranOutcome (StoppedFor why))
+
+pub record StepByStep (limit : ℕ) (d : Device) (call : Call) : Type 0 where
+  -- a turn that serves a DISPATCH_1D with no fault leaves what its threads leave
+  pub served : (report : Report) → answerOf limit d call ≡ Served report → Dispatches d call (report .ring)
+      → Leaves limit d call report (threadsIn limit d call (report .ring))
+  -- its threads run in order
+  pub threads : (kernel : Kernel) (groups threads : ℕ) (window : List ℕ) → ThreadsInOrder limit (call .pack) kernel groups threads window
+  -- each takes its steps in order
+  pub steps : (kernel : Kernel) (t : Thread) (window : List ℕ) → StepsInOrder limit (call .pack) kernel t window
+  -- each step is by the instruction's rule
+  pub step : (kernel : Kernel) (t : Thread) (window : List ℕ) → StepByRule limit (call .pack) kernel t window
+  -- the outcomes that the stops give
+  pub numbers : (stopNumber NotListed ≡ 11) × (stopNumber OffTheKernel ≡ 12) × (stopNumber OutsideTheWindow ≡ 13) × (stopNumber OutOfSteps ≡ 14)
 
 unfoldable pub EachStep : Type 0
-EachStep = (limit : ℕ) (pack : List ℕ) → StepByStep limit pack
+EachStep = (limit : ℕ) (d : Device) (call : Call) → StepByStep limit d call
