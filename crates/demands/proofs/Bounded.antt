@@ -1,102 +1,101 @@
 -- Turns over unchanging rings come to an end.
 -- Assumes nothing.
-use mathlib.Core.Path.{_≡_, refl, ap, _∙_}
+use mathlib.Core.Path.{_≡_, refl, ap}
 use mathlib.Core.Bool.{false}
 use mathlib.Core.List.{List, [], _∷_}
+use mathlib.Core.Logic.{_⊎_, inl, inr}
 use Prim.Native.Nat.{ℕ, _+_, _*_, _≤_, _<_}
+use native.Mathlib.Nat.{not-suc-le-zero}
 use native.Mathlib.Omega.{arith}
-use lib.Dec.{eqb}
-use lib.ListN.{length}
-use borrow.Author.Tests.{eq-eqb, ne-eqb}
+use lib.Dec.{eqb, lit<}
 use Rattle.command.specs.Choice.{either}
-use Rattle.command.proofs.Sizes.{size-least}
 use Rattle.device.specs.declared.state.Device.{Device}
-use Rattle.device.specs.declared.refusal.Verdict.the-variants.{Sound}
-use Rattle.device.specs.declared.ready.Picked.the-variants.{Ring as RingOf}
-use Rattle.device.specs.declared.refusal.Refusal.{Refusal}
-use Rattle.device.specs.declared.turn.Answer.the-variants.{Refused as RefusedFor, Idle}
-use Rattle.device.specs.State.{ringOf}
-use Rattle.device.specs.Turn.{Call, unchanged, ringAfter, finished, reportOf, servedOf, verdictOn}
-use Rattle.device.proofs.Wholes.{whole-inside}
-use Rattle.demands.specs.Calls.{ringIn, headIn, answerOf, deviceOf, isRefused, none, more, Formed}
-use Rattle.demands.specs.Bounded.{Lends, sumOfFour, served, taken, left, TurnsBounded}
-use Rattle.demands.proofs.Turns.{pickIn, servedIn, workIn, turn-cases, served-heard, picked-servable}
-use Rattle.demands.proofs.Devices.{after-ring, after-other-ring, after-formed}
-use Rattle.demands.proofs.Sums.{sum-grows, sum-both}
+use Rattle.device.specs.declared.turn.Report.{Report}
+use Rattle.device.specs.declared.turn.Answer.{Answer}
+use Rattle.device.specs.declared.turn.Answer.the-variants.{Refused, Idle, Served}
+use Rattle.device.specs.State.{freshDevice, ringOf}
+use Rattle.device.specs.Turn.{Call, unchanged, finished, servedOf}
+use Rattle.device.specs.Left.{Shaped, leftOf, sumOf, bytesLeft}
+use Rattle.device.proofs.Verdicts.{each-of-four}
+use Rattle.device.proofs.BytesLeft.{served-takes}
+use Rattle.demands.specs.Calls.{answerOf, deviceOf, isRefused, heard, none, more}
+use Rattle.demands.specs.Bounded.{Lends, served, taken, leftIn, SaysIdle, here, later, TurnsBounded, IdleInTime, FreshIdleInTime}
+use Rattle.demands.proofs.Turns.{turn-cases, was-served, picked-servable}
+use Rattle.demands.proofs.Devices.{after-shaped}
+use Rattle.demands.proofs.Keeps.{keeps}
+use Rattle.demands.proofs.Sums.{sum-both}
 
-module _ (limit : ℕ) (d : Device) (call : Call) (formed : Formed d) (r : ℕ) (sound : verdictOn d call ≡ Sound) (pick : pickIn d call ≡ RingOf r) where
-  four : r < 4
-  four = picked-servable d call r sound pick .number
+-- the bytes left of a call's rings
+lent-left : (R : ℕ → List ℕ) (d : Device) (call : Call) → Lends R call → bytesLeft d call ≡ leftIn R d
+unfolding bytesLeft sumOf
+lent-left R d call lends = rw (lends 0 (lit< tt), lends 1 (lit< tt), lends 2 (lit< tt), lends 3 (lit< tt))
 
-  -- the cursor of a served ring moves past its command
-  pub served-cursor : ringOf (servedIn limit d call r .turned .device) r .cursor ≡ ringOf d r .cursor + headIn d call r .size
-  unfolding servedOf finished ringAfter
-  served-cursor = ap (λ x. x .cursor) (after-ring d r (headIn d call r) (workIn limit d call r .performed) (omega (arith, four, formed .four)))
+-- a turn leaves the form of a device
+turn-shaped : (limit : ℕ) (d : Device) (call : Call) → Shaped d → Shaped (deviceOf limit d call)
+unfolding unchanged servedOf finished
+turn-shaped limit d call shaped =
+    turn-cases limit d call (λ a. Shaped (a .turned .device)) (λ why v. shaped) (λ v p. shaped) (λ r v p. after-shaped d r _ _ shaped)
 
-  pub served-others : (n : ℕ) → (n ≡ r → ⊥) → ringOf (servedIn limit d call r .turned .device) n .cursor ≡ ringOf d n .cursor
-  unfolding servedOf finished
-  served-others n other = ap (λ x. x .cursor) (after-other-ring d r (headIn d call r) (workIn limit d call r .performed) n other)
+-- a served turn takes one command
+one-served : (report : Report) → report .ring < 4 → sumOf 4 (served (Served report)) ≡ 1
+unfolding sumOf served either
+one-served report four =
+    each-of-four (λ r. 0 + either (eqb 0 r) 1 0 + either (eqb 1 r) 1 0 + either (eqb 2 r) 1 0 + either (eqb 3 r) 1 0 ≡ 1) refl refl refl refl (report .ring) four
 
-  pub served-formed : Formed (servedIn limit d call r .turned .device)
-  unfolding servedOf finished
-  served-formed = after-formed d r (headIn d call r) (workIn limit d call r .performed) formed
+-- and its bytes; a turn that serves none takes none, and it is refused or idle
+record Takes (R : ℕ → List ℕ) (d after : Device) (answer : Answer) : Type 0 where
+  bytes : 16 * sumOf 4 (served answer) + leftIn R after ≤ leftIn R d
+  counts : (answer ≡ Idle) ⊎ (either (isRefused answer) 0 1 ≡ sumOf 4 (served answer))
 
-  -- one command is taken
-  pub served-is : (n : ℕ) → served (servedIn limit d call r .turned .answer) n ≡ either (eqb n r) 1 0
-  unfolding servedOf finished reportOf served
-  served-is n = refl
+module _ (limit : ℕ) (d : Device) (call : Call) (R : ℕ → List ℕ) (shaped : Shaped d) where
+  turn-takes : (isRefused (answerOf limit d call) ≡ false → Lends R call) → Takes R d (deviceOf limit d call) (answerOf limit d call)
+  unfolding sumOf served isRefused either
+  turn-takes lends = go (answerOf limit d call) refl lends
+    where
+      go : (answer : Answer) → answerOf limit d call ≡ answer → (isRefused answer ≡ false → Lends R call) → Takes R d (deviceOf limit d call) answer
+      go (Refused why) e lends =
+          let same = keeps limit d call .refused (rw e) .device in
+          record { bytes = omega (arith, ap (leftIn R) same); counts = inr refl }
+      go Idle e lends =
+          let same = keeps limit d call .idle e .device in
+          record { bytes = omega (arith, ap (leftIn R) same); counts = inl refl }
+      go (Served report) e lends =
+          let was = was-served limit d call report e in
+          let one = one-served report (picked-servable d call (report .ring) (was .sound) (was .pick) .number) in
+          let lent = lends refl in
+          record {
+            bytes = omega (arith, one, served-takes limit d call shaped report e, lent-left R d call lent, lent-left R (deviceOf limit d call) call lent);
+            counts = inr (omega (arith, one));
+          }
 
-  served-once : sumOfFour (served (servedIn limit d call r .turned .answer)) ≡ 1
-  unfolding sumOfFour either
-  served-once =
-      sum-grows (λ n. 0) (served (servedIn limit d call r .turned .answer)) 1 r four
-      (λ n other. served-is n ∙ rw (ne-eqb n r other)) (served-is r ∙ rw (eq-eqb r r refl))
-
-  -- and its bytes
-  served-left : (R : ℕ → List ℕ) → Lends R call
-      → sumOfFour (left R (servedIn limit d call r .turned .device)) + 16 ≤ sumOfFour (left R d)
-  unfolding left
-  served-left R lends =
-      let size = headIn d call r .size in
-      let inside : ringOf d r .cursor + size ≤ length (R r) =
-      rw (← lends r four) (whole-inside (ringIn call r) (ringOf d r .cursor) (picked-servable d call r sound pick .whole)) in
-      let grown =
-      sum-grows (left R (servedIn limit d call r .turned .device)) (left R d) size r four
-      (λ n other. rw (served-others n other)) (omega (arith, served-cursor)) in
-      omega (arith, grown, size-least (ringIn call r) (ringOf d r .cursor))
-
-refused-none : (why : Refusal) → sumOfFour (served (RefusedFor why)) ≡ 0
-unfolding served sumOfFour
-refused-none why = refl
-
-idle-none : sumOfFour (served Idle) ≡ 0
-unfolding served sumOfFour
-idle-none = refl
-
-module _ (limit : ℕ) (d : Device) (call : Call) (R : ℕ → List ℕ) (formed : Formed d) where
-  turn-left : (isRefused (answerOf limit d call) ≡ false → Lends R call)
-      → (16 * sumOfFour (served (answerOf limit d call)) + sumOfFour (left R (deviceOf limit d call)) ≤ sumOfFour (left R d)) × Formed (deviceOf limit d call)
-  unfolding unchanged
-  turn-left =
-      turn-cases limit d call
-      (λ a. (isRefused (a .turned .answer) ≡ false → Lends R call)
-      → (16 * sumOfFour (served (a .turned .answer)) + sumOfFour (left R (a .turned .device)) ≤ sumOfFour (left R d)) × Formed (a .turned .device))
-      (λ why v lends. (omega (arith, refused-none why), formed))
-      (λ v p lends. (omega (arith, idle-none), formed))
-      (λ r v p lends. (
-        omega (arith, served-once limit d call formed r v p, served-left limit d call formed r v p R (lends (served-heard limit d call r))),
-        served-formed limit d call formed r v p,
-      ))
-
-none-taken : (limit : ℕ) (d : Device) → sumOfFour (taken limit d []) ≡ 0
-unfolding taken sumOfFour
+none-taken : (limit : ℕ) (d : Device) → sumOf 4 (taken limit d []) ≡ 0
+unfolding taken sumOf
 none-taken limit d = refl
 
 pub turns-bounded : TurnsBounded
 unfolding TurnsBounded taken
-turns-bounded limit d R [] formed none = omega (arith, none-taken limit d)
-turns-bounded limit d R (call ∷ calls) formed (more lends each) =
-    let here = turn-left limit d call R formed lends in
-    let further = turns-bounded limit (deviceOf limit d call) R calls (here .1) each in
+turns-bounded limit d R [] shaped none = omega (arith, none-taken limit d)
+turns-bounded limit d R (call ∷ calls) shaped (more lends each) =
+    let now = turn-takes limit d call R shaped lends in
+    let further = turns-bounded limit (deviceOf limit d call) R calls (turn-shaped limit d call shaped) each in
     let both = sum-both (taken limit d (call ∷ calls)) (served (answerOf limit d call)) (taken limit (deviceOf limit d call) calls) (λ q four. refl) in
-    omega (arith, here .0, further, both)
+    omega (arith, now .bytes, further, both)
+
+pub idle-in-time : IdleInTime
+unfolding IdleInTime heard
+idle-in-time limit d R [] shaped none enough = absurd (not-suc-le-zero enough)
+idle-in-time limit d R (call ∷ calls) shaped (more lends each) enough =
+    let now = turn-takes limit d call R shaped lends in
+    go (now .bytes) (now .counts) (idle-in-time limit (deviceOf limit d call) R calls (turn-shaped limit d call shaped) each)
+  where
+    go : 16 * sumOf 4 (served (answerOf limit d call)) + leftIn R (deviceOf limit d call) ≤ leftIn R d
+        → (answerOf limit d call ≡ Idle) ⊎ (either (isRefused (answerOf limit d call)) 0 1 ≡ sumOf 4 (served (answerOf limit d call)))
+        → (leftIn R (deviceOf limit d call) < 16 * heard limit (deviceOf limit d call) calls → SaysIdle limit (deviceOf limit d call) calls)
+        → SaysIdle limit d (call ∷ calls)
+    go bytes (inl idle) further = here idle
+    go bytes (inr counted) further = later (further (omega (arith, bytes, counted, enough)))
+
+pub fresh-idle-in-time : FreshIdleInTime
+unfolding FreshIdleInTime IdleInTime freshDevice ringOf leftOf sumOf
+fresh-idle-in-time limit w0 w1 w2 w3 R calls each enough =
+    idle-in-time limit (freshDevice w0 w1 w2 w3) R calls (record { rings = refl; slots = refl }) each (omega (arith, enough))

@@ -2,7 +2,7 @@
 use Rattle.demands.specs.FourTurns.{FourTurns, FourTurnsByHead}
 use Rattle.demands.specs.Keeps.{TurnKeeps, FreshMakes}
 use Rattle.demands.specs.Reports.{TurnReports}
-use Rattle.demands.specs.Bounded.{TurnsBounded}
+use Rattle.demands.specs.Bounded.{TurnsBounded, IdleInTime, FreshIdleInTime}
 use Rattle.demands.specs.Idle.{IdleIsDone}
 use Rattle.demands.specs.StepByStep.{EachStep}
 use Rattle.demands.specs.OneAnswer.{OneAnswer}
@@ -41,6 +41,12 @@ four-turns-by-head = four.four-turns-by-head
 -- demand 3: turns over unchanging rings come to an end, and when the answer is idle no order of starts gets further
 pub turns-bounded : TurnsBounded
 turns-bounded = bounded.turns-bounded
+
+pub idle-in-time : IdleInTime
+idle-in-time = bounded.idle-in-time
+
+pub fresh-idle-in-time : FreshIdleInTime
+fresh-idle-in-time = bounded.fresh-idle-in-time
 
 pub idle-is-done : IdleIsDone
 idle-is-done = idle.idle-is-done

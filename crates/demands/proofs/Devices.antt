@@ -7,7 +7,7 @@ use Prim.Native.Nat.{ℕ, zero, suc, _^_, _≤_, _<_}
 use native.Mathlib.Nat.{le-refl}
 use native.Mathlib.Omega.{arith}
 use lib.ListN.{length, getD, set, length-set}
-use lib.Seq.{getD-set-same, getD-set-other}
+use lib.Seq.{getD-set-other}
 use Rattle.command.specs.declared.header.Command.{Command}
 use Rattle.command.specs.declared.work.Performed.{Performed}
 use Rattle.command.specs.Choice.{either}
@@ -17,7 +17,9 @@ use Rattle.device.specs.declared.state.Device.{Device}
 use Rattle.device.specs.State.{emptyWindow, freshRing, ringOf, slotOf, withRing, withSlot, withMarker}
 use Rattle.device.specs.Ready.{nextRing}
 use Rattle.device.specs.Turn.{emitted, emitTo, ringAfter, deviceAfter}
-use Rattle.demands.specs.Calls.{SlotsFit, Formed}
+use Rattle.device.specs.Left.{Shaped}
+use Rattle.device.proofs.BytesLeft.{rings-after}
+use Rattle.demands.specs.Calls.{SlotsFit}
 
 -- a number put in one place of a list, no less than what it held, lowers no place
 put-rises : (xs : List ℕ) (n v m : ℕ) → getD xs n 0 ≤ v → getD xs m 0 ≤ getD (set xs n v) m 0
@@ -44,12 +46,6 @@ put-frame (x ∷ xs) zero ring (suc n) same = refl
 put-frame (x ∷ xs) (suc q) ring zero same = refl
 put-frame (x ∷ xs) (suc q) ring (suc n) same = put-frame xs q ring n same
 
--- an emit changes no ring
-pub emit-rings : (b : Bool) (d : Device) (n slot : ℕ) → emitTo b d n slot .rings ≡ d .rings
-unfolding emitTo either withSlot
-emit-rings true d n slot = refl
-emit-rings false d n slot = refl
-
 pub emit-rises : (b : Bool) (d : Device) (n : ℕ) → SlotsFit d → (b ≡ true → slotOf d n ≡ 4294967295 → ⊥) → (m : ℕ)
     → slotOf d m ≤ slotOf (emitTo b d n (slotOf d n)) m
 unfolding emitTo either withSlot slotOf SlotsFit
@@ -70,15 +66,6 @@ module _ (d : Device) (q : ℕ) (c : Command) (p : Performed) where
   unfolding deviceAfter withMarker
   after-marker = refl
 
-  after-rings : deviceAfter d q c p .rings ≡ set (d .rings) q (ringAfter (ringOf d q) c (p .frame))
-  unfolding deviceAfter withMarker withRing
-  after-rings = emit-rings (emits c (p .outcome)) _ (c .rdst) _
-
-  -- the other rings are as they were
-  pub after-other-ring : (n : ℕ) → (n ≡ q → ⊥) → ringOf (deviceAfter d q c p) n ≡ ringOf d n
-  unfolding ringOf
-  after-other-ring n other = rw after-rings (getD-set-other (d .rings) q n _ (freshRing emptyWindow) other)
-
   -- no slot is lowered
   pub after-rises : SlotsFit d → (emits c (p .outcome) ≡ true → slotOf d (c .rdst) ≡ 4294967295 → ⊥) → (m : ℕ)
       → slotOf d m ≤ slotOf (deviceAfter d q c p) m
@@ -92,12 +79,7 @@ module _ (d : Device) (q : ℕ) (c : Command) (p : Performed) where
   -- the frames stay where the command leaves its ring's
   pub after-frames : p .frame ≡ ringOf d q .frame → (n : ℕ) → ringOf (deviceAfter d q c p) n .frame ≡ ringOf d n .frame
   unfolding ringOf ringAfter
-  after-frames same n = rw after-rings (put-frame (d .rings) q (ringAfter (ringOf d q) c (p .frame)) n same)
-
-  -- the served ring has its cursor past the command
-  pub after-ring : q < length (d .rings) → ringOf (deviceAfter d q c p) q ≡ ringAfter (ringOf d q) c (p .frame)
-  unfolding ringOf
-  after-ring inside = rw after-rings (getD-set-same (d .rings) q _ (freshRing emptyWindow) inside)
+  after-frames same n = rw (rings-after d q c p) (put-frame (d .rings) q (ringAfter (ringOf d q) c (p .frame)) n same)
 
   -- an emit puts the new number in its slot, and nothing else changes a slot
   pub after-emit : emits c (p .outcome) ≡ true → deviceAfter d q c p .slots ≡ set (d .slots) (c .rdst) (emitted (slotOf d (c .rdst)))
@@ -116,11 +98,10 @@ module _ (d : Device) (q : ℕ) (c : Command) (p : Performed) where
       go true e = rw (after-emit e) (getD-set-other (d .slots) (c .rdst) n _ 0 other)
       go false e = rw (after-no-emit e)
 
-  pub after-formed : Formed d → Formed (deviceAfter d q c p)
-  after-formed formed = record {
-    slots = after-fits (formed .slots);
-    sixty-four = slots-kept (emits c (p .outcome)) refl ∙ formed .sixty-four;
-    four = rw after-rings (simp length-set (formed .four));
+  pub after-shaped : Shaped d → Shaped (deviceAfter d q c p)
+  after-shaped shaped = record {
+    rings = rw (rings-after d q c p) (simp length-set (shaped .rings));
+    slots = slots-kept (emits c (p .outcome)) refl ∙ shaped .slots;
   }
     where
       slots-kept : (b : Bool) → emits c (p .outcome) ≡ b → length (deviceAfter d q c p .slots) ≡ length (d .slots)

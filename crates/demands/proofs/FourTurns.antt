@@ -24,11 +24,12 @@ use Rattle.device.specs.State.{ringOf, slotOf}
 use Rattle.device.specs.Ready.{isMet, readyWith, readyWhere, readyAt, pickOf}
 use Rattle.device.specs.Turn.{Call, After, turnOf, unchanged, reportOf, finished, servedOf}
 use Rattle.device.proofs.Wholes.{whole-inside}
+use Rattle.device.proofs.BytesLeft.{other-ring}
 use Rattle.demands.specs.Calls.{ringIn, headIn, answerOf, deviceOf, isRefused, ServesRing, SlotsFit, heard, EachHeard, none, more, Serves, here, later}
 use Rattle.demands.specs.FourTurns.{SameHead, FourTurns, FourTurnsByHead}
 use Rattle.demands.proofs.Turns.{pickIn, servedIn, workIn, turn-cases, marker-below, served-heard}
 use Rattle.demands.proofs.Works.{full-slot-stays}
-use Rattle.demands.proofs.Devices.{after-marker, after-other-ring, after-rises, after-fits}
+use Rattle.demands.proofs.Devices.{after-marker, after-rises, after-fits}
 use Rattle.demands.proofs.Walks.{walk, walk-next, walk-rest, seek-reaches, distance}
 
 -- a ready command stays ready while its slot is not lowered
@@ -82,7 +83,7 @@ module _ (q : ℕ) (b : List ℕ) (k : ℕ) where
         nearer (rest .0) refl (rest .1)
         (record {
           slots = after-fits d r c p (w .slots);
-          cursor = ap (λ x. x .cursor) (after-other-ring d r c p q (λ e. other (sym e))) ∙ w .cursor;
+          cursor = ap (λ x. x .cursor) (other-ring d r c p q (λ e. other (sym e))) ∙ w .cursor;
           ready =
               ready-rises (commandAt b k) _ _ (after-rises d r c p (w .slots) (full-slot-stays c _ _ _ _ _ _ _) (commandAt b k .rdst)) (w .ready);
           away = rw (after-marker d r c p, walk-next i (d .marker)) (rest .2 ∙ w .away);

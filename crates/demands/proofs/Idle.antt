@@ -23,31 +23,32 @@ use Rattle.device.specs.declared.turn.Answer.the-variants.{Idle}
 use Rattle.device.specs.State.{freshDevice, ringOf, slotOf}
 use Rattle.device.specs.Ready.{readyWhere, readyAt, pickOf}
 use Rattle.device.specs.Turn.{Call, emitted, unchanged, deviceAfter, finished, reportOf, servedOf, verdictOn}
+use Rattle.device.specs.Left.{Shaped, sumOf}
 use Rattle.device.proofs.Verdicts.{each-of-four, steady}
-use Rattle.demands.specs.Calls.{ringIn, headIn, answerOf, deviceOf, isRefused, SlotsFit, EachHeard, none, more, Formed}
-use Rattle.demands.specs.Bounded.{Lends, sumOfFour, served, taken}
+use Rattle.demands.specs.Calls.{ringIn, headIn, answerOf, deviceOf, isRefused, EachHeard, none, more}
+use Rattle.demands.specs.Bounded.{Lends, served, taken}
 use Rattle.demands.specs.Idle.{placeOf, nth, isEmitting, emitsIn, countOf, oneMore, Order, nothing, start, lastOf, IdleIsDone}
 use Rattle.demands.proofs.Turns.{pickIn, servedIn, workIn, turn-cases, marker-below, served-heard, picked-servable}
 use Rattle.demands.proofs.Works.{emits-when-sound}
-use Rattle.demands.proofs.Devices.{after-emit, after-no-emit, after-other-slot}
+use Rattle.demands.proofs.Devices.{after-emit, after-no-emit, after-other-slot, after-shaped}
 use Rattle.demands.proofs.Walks.{seek-reaches, distance}
 use Rattle.demands.proofs.FourTurns.{ready-rises}
-use Rattle.demands.proofs.Bounded.{served-cursor, served-others, served-formed, served-is}
+use Rattle.demands.proofs.Served.{served-cursor, served-others, served-is}
 use Rattle.demands.proofs.Emitting.{emitting-slot}
 use Rattle.demands.proofs.Orders.{hit, place-least, more-here, more-other, count-more, count-most, count-rises}
 
 -- the device has taken t q commands of each ring q
 pub record Took (R : ℕ → List ℕ) (d : Device) (t : ℕ → ℕ) : Type 0 where
-  pub formed : Formed d
+  pub shaped : Shaped d
   pub cursors : (q : ℕ) → q < 4 → ringOf d q .cursor ≡ placeOf (R q) (t q)
   pub slots : (s : ℕ) → slotOf d s ≡ countOf R t s
 
 -- a slot that is not full has one more where a command emits to it
-module _ (d : Device) (q : ℕ) (c : Command) (p : Performed) (formed : Formed d) (free : slotOf d (c .rdst) < 4294967295)
+module _ (d : Device) (q : ℕ) (c : Command) (p : Performed) (shaped : Shaped d) (free : slotOf d (c .rdst) < 4294967295)
     (when : emits c (p .outcome) ≡ isEmitting c) (s : ℕ) where
   put : isEmitting c ≡ true → slotOf (deviceAfter d q c p) (c .rdst) ≡ emitted (slotOf d (c .rdst))
   unfolding slotOf
-  put e = rw (after-emit d q c p (when ∙ e)) (getD-set-same (d .slots) (c .rdst) _ 0 (omega (arith, emitting-slot c e, formed .sixty-four)))
+  put e = rw (after-emit d q c p (when ∙ e)) (getD-set-same (d .slots) (c .rdst) _ 0 (omega (arith, emitting-slot c e, shaped .slots)))
 
   stays : isEmitting c ≡ false → slotOf (deviceAfter d q c p) s ≡ slotOf d s
   unfolding slotOf
@@ -106,7 +107,7 @@ module _ (limit : ℕ) (R : ℕ → List ℕ) where
 
 -- no slot is full: the rings hold at most 16,384 commands
 few : (R : ℕ → List ℕ) (d : Device) (t : ℕ → ℕ) → Took R d t → (call : Call) → verdictOn d call ≡ Sound → (s : ℕ) → slotOf d s < 4294967295
-unfolding verdictOn sumOfFour
+unfolding verdictOn sumOf
 few R d t took call sound s =
     let calm = steady d (length (call .memory)) (call .ring0) (call .ring1) (call .ring2) (call .ring3) (length (call .pipe)) (call .pack) sound in
     let each : (q : ℕ) → q < 4 → t q ≤ 4096 = λ q four. omega (arith, place-least (R q) (t q), took .cursors q four, calm .cursors q four) in
@@ -129,26 +130,30 @@ module _ (limit : ℕ) (R : ℕ → List ℕ) where
         go : (b : Bool) → eqb q r ≡ b → ringOf (servedIn limit d call r .turned .device) q .cursor ≡ placeOf (R q) (oneMore t r q)
         go true e =
             rw (eqb-true q r e, more-here t r)
-            (served-cursor limit d call (took .formed) r sound pick ∙ rw (head, took .cursors r ring-below))
+            (served-cursor limit d call r (took .shaped) sound pick ∙ rw (head, took .cursors r ring-below))
         go false e =
             let other = eqb-false q r e in
-            rw (more-other t r q other) (served-others limit d call (took .formed) r sound pick q other ∙ took .cursors q four)
+            rw (more-other t r q other) (served-others limit d call r q other ∙ took .cursors q four)
 
     next-slot : (s : ℕ) → slotOf (servedIn limit d call r .turned .device) s ≡ countOf R (oneMore t r) s
     unfolding servedOf finished
     next-slot s =
         let c = headIn d call r in
         let free = few R d t took call sound (c .rdst) in
-        let hits = slot-hit d r c (workIn limit d call r .performed) (took .formed) free (emits-when-sound _ _ _ _ _ _ _ _ (λ full. omega (arith, free, full))) s in
+        let hits = slot-hit d r c (workIn limit d call r .performed) (took .shaped) free (emits-when-sound _ _ _ _ _ _ _ _ (λ full. omega (arith, free, full))) s in
         let same : hit c s ≡ hit (nth (R r) (t r)) s = ap (λ k. hit k s) head in
         omega (arith, hits, same, took .slots s, count-more R t r s ring-below)
 
+    next-shaped : Shaped (servedIn limit d call r .turned .device)
+    unfolding servedOf finished
+    next-shaped = after-shaped d r (headIn d call r) (workIn limit d call r .performed) (took .shaped)
+
     next-took : Took R (servedIn limit d call r .turned .device) (oneMore t r)
-    next-took = record { formed = served-formed limit d call (took .formed) r sound pick; cursors = next-cursor; slots = next-slot }
+    next-took = record { shaped = next-shaped; cursors = next-cursor; slots = next-slot }
 
     next-count : (q : ℕ) → oneMore t r q ≡ t q + served (servedIn limit d call r .turned .answer) q
     unfolding either
-    next-count q = rw (served-is limit d call (took .formed) r sound pick q) (go (eqb q r) refl)
+    next-count q = rw (served-is limit d call r q) (go (eqb q r) refl)
       where
         go : (b : Bool) → eqb q r ≡ b → oneMore t r q ≡ t q + either (eqb q r) 1 0
         go true e = let here = eqb-true q r e in rw (here, more-here t r, eq-eqb r r refl) (omega arith)
@@ -183,9 +188,9 @@ zeros (suc k) (suc n) = zeros k n
 
 -- a fresh device has taken nothing
 fresh-took : (R : ℕ → List ℕ) (w0 w1 w2 w3 : Window) → Took R (freshDevice w0 w1 w2 w3) (λ q. 0)
-unfolding freshDevice SlotsFit slotOf ringOf placeOf emitsIn sumOfFour
+unfolding freshDevice slotOf ringOf placeOf emitsIn sumOf
 fresh-took R w0 w1 w2 w3 = record {
-  formed = record { slots = λ n. rw (zeros 64 n) (omega arith); sixty-four = refl; four = refl };
+  shaped = record { rings = refl; slots = refl };
   cursors = each-of-four (λ q. ringOf (freshDevice w0 w1 w2 w3) q .cursor ≡ 0) refl refl refl refl;
   slots = zeros 64;
 }

@@ -7,6 +7,7 @@ pub mod Keeps
 pub mod Emitting
 pub mod Reports
 pub mod Sums
+pub mod Served
 pub mod Bounded
 pub mod Orders
 pub mod Idle

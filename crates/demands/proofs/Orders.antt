@@ -12,7 +12,7 @@ use borrow.Author.Tests.{eq-eqb, ne-eqb}
 use Rattle.command.specs.declared.header.Command.{Command}
 use Rattle.command.specs.Choice.{either}
 use Rattle.command.proofs.Sizes.{size-least}
-use Rattle.demands.specs.Bounded.{sumOfFour}
+use Rattle.device.specs.Left.{sumOf}
 use Rattle.demands.specs.Idle.{placeOf, nth, isEmitting, emitsIn, countOf, oneMore}
 use Rattle.demands.proofs.Sums.{sum-grows, sum-most}
 
@@ -63,7 +63,7 @@ module _ (R : ℕ → List ℕ) where
       sum-grows (λ q. emitsIn (R q) slot (n q)) (λ q. emitsIn (R q) slot (oneMore n r q)) (hit (nth (R r) (n r)) slot) r four
       (λ q other. rw (more-other n r q other)) (rw (more-here n r))
 
-  pub count-most : (n : ℕ → ℕ) (slot : ℕ) → countOf R n slot ≤ sumOfFour n
+  pub count-most : (n : ℕ → ℕ) (slot : ℕ) → countOf R n slot ≤ sumOf 4 n
   count-most n slot = sum-most (λ q. emitsIn (R q) slot (n q)) n (λ q four. emits-most (R q) slot (n q))
 
   pub count-rises : (n m : ℕ → ℕ) (slot : ℕ) → ((q : ℕ) → n q ≤ m q) → countOf R n slot ≤ countOf R m slot

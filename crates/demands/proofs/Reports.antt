@@ -23,12 +23,14 @@ use Rattle.device.specs.declared.turn.Report.{Report}
 use Rattle.device.specs.State.{ringOf, slotOf}
 use Rattle.device.specs.Ready.{readyAt, pickOf}
 use Rattle.device.specs.Turn.{fenceOf, ringAfter, deviceAfter, finished, servedOf}
+use Rattle.device.specs.Left.{Shaped}
 use Rattle.device.proofs.Verdicts.{found}
-use Rattle.demands.specs.Calls.{ringIn, headIn, deviceOf, SlotsFit, Formed}
+use Rattle.device.proofs.BytesLeft.{served-ring, other-ring}
+use Rattle.demands.specs.Calls.{ringIn, headIn, deviceOf, SlotsFit}
 use Rattle.demands.specs.Reports.{Signals, Interrupts, Reads, SetsFrame, Reported, TurnReports}
 use Rattle.demands.proofs.Turns.{workIn, was-served, marker-below}
 use Rattle.demands.proofs.Works.{full-slot-stays, frame-set, frame-kept}
-use Rattle.demands.proofs.Devices.{after-marker, after-other-ring, after-ring, after-emit, after-no-emit, after-other-slot, after-formed}
+use Rattle.demands.proofs.Devices.{after-marker, after-fits, after-emit, after-no-emit, after-other-slot, after-shaped}
 use Rattle.demands.proofs.Emitting.{emits-in-range}
 
 both : (a b : Bool) → a ≡ true → b ≡ true → (a && b) ≡ true
@@ -71,7 +73,7 @@ module _ (c : Command) (o : Outcome) where
       let is = eqb (c .opcode) readMem in
       rw (not-held (is && isDone o) (λ e. not (eqb-true _ _ (both-left is (isDone o) e), eqb-true _ _ (both-right is (isDone o) e))))
 
-module _ (d : Device) (q : ℕ) (c : Command) (p : Performed) (formed : Formed d) (four : q < 4)
+module _ (d : Device) (q : ℕ) (c : Command) (p : Performed) (shaped : Shaped d) (fit : SlotsFit d) (four : q < 4)
     (full : emits c (p .outcome) ≡ true → slotOf d (c .rdst) ≡ 4294967295 → ⊥) (range : emits c (p .outcome) ≡ true → c .rdst < 64)
     (sets : SetsFrame c (p .outcome) → p .frame ≡ heldBy c) (kept : (SetsFrame c (p .outcome) → ⊥) → p .frame ≡ ringOf d q .frame) where
   abbrev told : Report
@@ -86,12 +88,12 @@ module _ (d : Device) (q : ℕ) (c : Command) (p : Performed) (formed : Formed d
   one-more : emits c (p .outcome) ≡ true → fenceOf (emits c (p .outcome)) (slotOf d (c .rdst)) ≡ slotOf d (c .rdst) + 1
   unfolding fenceOf either SlotsFit
   one-more e =
-      let below : slotOf d (c .rdst) < 2 ^ 32 = formed .slots (c .rdst) in
+      let below : slotOf d (c .rdst) < 2 ^ 32 = fit (c .rdst) in
       rw e (omega (arith, full e))
 
   holds : emits c (p .outcome) ≡ true → slotOf (deviceAfter d q c p) (c .rdst) ≡ fenceOf (emits c (p .outcome)) (slotOf d (c .rdst))
   unfolding fenceOf either slotOf
-  holds e = rw (after-emit d q c p e, e) (getD-set-same (d .slots) (c .rdst) _ 0 (omega (arith, range e, formed .sixty-four)))
+  holds e = rw (after-emit d q c p e, e) (getD-set-same (d .slots) (c .rdst) _ 0 (omega (arith, range e, shaped .slots)))
 
   silent : (Signals c (p .outcome) → ⊥) → emits c (p .outcome) ≡ false
   silent not = not-held (emits c (p .outcome)) (λ e. not (signals c (p .outcome) .0 e))
@@ -105,7 +107,7 @@ module _ (d : Device) (q : ℕ) (c : Command) (p : Performed) (formed : Formed d
   no-signal e n = rw (after-no-emit d q c p e)
 
   moved : ringOf (deviceAfter d q c p) q ≡ ringAfter (ringOf d q) c (p .frame)
-  moved = after-ring d q c p (omega (arith, formed .four))
+  moved = served-ring d q c p (omega (arith, shaped .rings))
 
   reported : Reported d q c told (deviceAfter d q c p)
   unfolding ringAfter
@@ -122,13 +124,13 @@ module _ (d : Device) (q : ℕ) (c : Command) (p : Performed) (formed : Formed d
     window = ap (λ r. r .window) moved;
     frame-set = λ s. ap (λ r. r .frame) moved ∙ sets s;
     frame = λ not. ap (λ r. r .frame) moved ∙ kept not;
-    other-rings = after-other-ring d q c p;
+    other-rings = other-ring d q c p;
     marker = after-marker d q c p;
   }
 
 pub turn-reports : TurnReports
 unfolding TurnReports servedOf finished pickOf
-turn-reports limit d call report formed e =
+turn-reports limit d call report shaped fit e =
     let was = was-served limit d call report e in
     let q = report .ring in
     let c = headIn d call q in
@@ -140,7 +142,8 @@ turn-reports limit d call report formed e =
       reported =
           rw (deviceOf, was .after)
           (subst (λ (r : Report). Reported d q c r (deviceAfter d q c p)) (was .told)
-          (reported d q c p formed (picked .0) (full-slot-stays _ _ _ _ _ _ _ _) (emits-in-range _ _ _ _ _ _ _ _)
+          (reported d q c p shaped fit (picked .0) (full-slot-stays _ _ _ _ _ _ _ _) (emits-in-range _ _ _ _ _ _ _ _)
           (frame-set _ _ _ _ _ _ _ _) (frame-kept _ _ _ _ _ _ _ _)));
-      formed = rw (deviceOf, was .after) (after-formed d q c p formed);
+      shaped = rw (deviceOf, was .after) (after-shaped d q c p shaped);
+      slots = rw (deviceOf, was .after) (after-fits d q c p fit);
     }

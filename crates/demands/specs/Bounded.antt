@@ -1,24 +1,22 @@
 -- Turns over unchanging rings come to an end: each served turn takes at least 16 bytes of a ring.
-use Prim.Native.Nat.{ℕ, _+_, _-_, _*_, _≤_, _<_}
+use Prim.Native.Nat.{ℕ, _+_, _*_, _≤_, _<_}
 use mathlib.Core.Path.{_≡_}
 use mathlib.Core.List.{List, [], _∷_}
 use lib.Dec.{eqb}
 use lib.ListN.{length}
 use Rattle.command.specs.Choice.{either}
+use Rattle.device.specs.declared.state.Window.{Window}
 use Rattle.device.specs.declared.state.Device.{Device}
 use Rattle.device.specs.declared.turn.Answer.{Answer}
 use Rattle.device.specs.declared.turn.Answer.the-variants.{Refused, Idle, Served}
-use Rattle.device.specs.State.{ringOf}
+use Rattle.device.specs.State.{freshDevice}
 use Rattle.device.specs.Turn.{Call}
-use Rattle.demands.specs.Calls.{ringIn, answerOf, deviceOf, EachHeard, Formed}
+use Rattle.device.specs.Left.{Shaped, leftOf, sumOf}
+use Rattle.demands.specs.Calls.{ringIn, answerOf, deviceOf, heard, EachHeard}
 
 -- the call lends R q as the bytes of each ring q
 abbrev pub Lends : (ℕ → List ℕ) → Call → Type 0
 Lends R call = (q : ℕ) → q < 4 → ringIn call q ≡ R q
-
--- the sum over the four rings
-unfoldable pub sumOfFour : (ℕ → ℕ) → ℕ
-sumOfFour f = f 0 + f 1 + f 2 + f 3
 
 -- 1 if the answer serves ring q, else 0
 unfoldable pub served : Answer → ℕ → ℕ
@@ -31,12 +29,29 @@ unfoldable pub taken : ℕ → Device → List Call → ℕ → ℕ
 taken limit d [] q = 0
 taken limit d (call ∷ calls) q = served (answerOf limit d call) q + taken limit (deviceOf limit d call) calls q
 
--- the bytes of ring q that are left
-unfoldable pub left : (ℕ → List ℕ) → Device → ℕ → ℕ
-left R d q = length (R q) - ringOf d q .cursor
+-- the bytes that are left of rings whose bytes are R
+abbrev pub leftIn : (ℕ → List ℕ) → Device → ℕ
+leftIn R d = sumOf 4 (λ q. leftOf d q (R q))
+
+-- one of the calls answers idle
+pub data SaysIdle (limit : ℕ) : Device → List Call → Type 0 where
+  here : {d : Device} {call : Call} {calls : List Call} → answerOf limit d call ≡ Idle → SaysIdle limit d (call ∷ calls)
+  later : {d : Device} {call : Call} {calls : List Call} → SaysIdle limit (deviceOf limit d call) calls → SaysIdle limit d (call ∷ calls)
 
 -- the calls that serve a ring are no more than a sixteenth of the bytes left
 unfoldable pub TurnsBounded : Type 0
 TurnsBounded =
-    (limit : ℕ) (d : Device) (R : ℕ → List ℕ) (calls : List Call) → Formed d → EachHeard (Lends R) limit d calls
-    → 16 * sumOfFour (taken limit d calls) ≤ sumOfFour (left R d)
+    (limit : ℕ) (d : Device) (R : ℕ → List ℕ) (calls : List Call) → Shaped d → EachHeard (Lends R) limit d calls
+    → 16 * sumOf 4 (taken limit d calls) ≤ leftIn R d
+
+-- if more calls than that are not refused, one of them answers idle
+unfoldable pub IdleInTime : Type 0
+IdleInTime =
+    (limit : ℕ) (d : Device) (R : ℕ → List ℕ) (calls : List Call) → Shaped d → EachHeard (Lends R) limit d calls
+    → leftIn R d < 16 * heard limit d calls → SaysIdle limit d calls
+
+-- from fresh, the bytes left are those of the four rings
+unfoldable pub FreshIdleInTime : Type 0
+FreshIdleInTime =
+    (limit : ℕ) (w0 w1 w2 w3 : Window) (R : ℕ → List ℕ) (calls : List Call) → EachHeard (Lends R) limit (freshDevice w0 w1 w2 w3) calls
+    → sumOf 4 (λ q. length (R q)) < 16 * heard limit (freshDevice w0 w1 w2 w3) calls → SaysIdle limit (freshDevice w0 w1 w2 w3) calls

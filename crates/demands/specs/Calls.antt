@@ -3,7 +3,6 @@ use Prim.Native.Nat.{ℕ, _+_, _^_, _<_}
 use mathlib.Core.Path.{_≡_}
 use mathlib.Core.Bool.{Bool, true, false}
 use mathlib.Core.List.{List, [], _∷_}
-use lib.ListN.{length}
 use Rattle.command.specs.declared.header.Command.{Command}
 use Rattle.command.specs.Choice.{either}
 use Rattle.command.specs.Header.{commandAt}
@@ -44,12 +43,6 @@ pub record ServesRing (q : ℕ) (answer : Answer) : Type 0 where
 -- each slot holds a 32-bit number, as those of every device do
 unfoldable pub SlotsFit : Device → Type 0
 SlotsFit d = (n : ℕ) → slotOf d n < 2 ^ 32
-
--- what every device has by its type
-pub record Formed (d : Device) : Type 0 where
-  pub slots : SlotsFit d
-  pub sixty-four : length (d .slots) ≡ 64
-  pub four : length (d .rings) ≡ 4
 
 -- how many of the calls are not refused
 unfoldable pub heard : ℕ → Device → List Call → ℕ

@@ -16,8 +16,9 @@ use Rattle.device.specs.declared.turn.Answer.the-variants.{Idle}
 use Rattle.device.specs.State.{freshDevice}
 use Rattle.device.specs.Ready.{readyWith}
 use Rattle.device.specs.Turn.{Call}
+use Rattle.device.specs.Left.{sumOf}
 use Rattle.demands.specs.Calls.{answerOf, deviceOf, EachHeard}
-use Rattle.demands.specs.Bounded.{Lends, sumOfFour, taken}
+use Rattle.demands.specs.Bounded.{Lends, taken}
 
 -- where the n-th command of a ring begins
 unfoldable pub placeOf : List ℕ → ℕ → ℕ
@@ -39,7 +40,7 @@ emitsIn b slot (suc n) = emitsIn b slot n + either (isEmitting (nth b n) && eqb 
 
 -- how many commands that emit to a slot have been started, n q of each ring q
 abbrev pub countOf : (ℕ → List ℕ) → (ℕ → ℕ) → ℕ → ℕ
-countOf R n slot = sumOfFour (λ q. emitsIn (R q) slot (n q))
+countOf R n slot = sumOf 4 (λ q. emitsIn (R q) slot (n q))
 
 -- one more of ring q
 unfoldable pub oneMore : (ℕ → ℕ) → ℕ → ℕ → ℕ

@@ -15,7 +15,8 @@ use Rattle.device.specs.declared.turn.Answer.the-variants.{Served}
 use Rattle.device.specs.State.{ringOf, slotOf}
 use Rattle.device.specs.Ready.{readyAt, nextRing}
 use Rattle.device.specs.Turn.{Call}
-use Rattle.demands.specs.Calls.{ringIn, headIn, answerOf, deviceOf, Formed}
+use Rattle.device.specs.Left.{Shaped}
+use Rattle.demands.specs.Calls.{ringIn, headIn, answerOf, deviceOf, SlotsFit}
 
 -- the command signals: its emit bit is set and the outcome is 0 or 6 to 14
 abbrev pub Signals : Command → Outcome → Type 0
@@ -64,10 +65,11 @@ pub record Serving (limit : ℕ) (d : Device) (call : Call) (report : Report) : 
   pub ring : report .ring < 4
   pub ready : readyAt d (report .ring) (ringIn call (report .ring)) ≡ true
   pub reported : Reported d (report .ring) (headIn d call (report .ring)) report (deviceOf limit d call)
-  -- and the device that it leaves is as well formed
-  pub formed : Formed (deviceOf limit d call)
+  -- and the device that it leaves has the form of every device
+  pub shaped : Shaped (deviceOf limit d call)
+  pub slots : SlotsFit (deviceOf limit d call)
 
 unfoldable pub TurnReports : Type 0
 TurnReports =
-    (limit : ℕ) (d : Device) (call : Call) (report : Report) → Formed d → answerOf limit d call ≡ Served report
+    (limit : ℕ) (d : Device) (call : Call) (report : Report) → Shaped d → SlotsFit d → answerOf limit d call ≡ Served report
     → Serving limit d call report

@@ -1,0 +1,34 @@
+-- What a turn that serves a ring does to the cursors, and that it takes one command.
+-- Assumes nothing.
+use mathlib.Core.Path.{_≡_, refl, ap}
+use Prim.Native.Nat.{ℕ, _+_}
+use native.Mathlib.Omega.{arith}
+use lib.Dec.{eqb}
+use Rattle.command.specs.Choice.{either}
+use Rattle.device.specs.declared.state.Device.{Device}
+use Rattle.device.specs.declared.refusal.Verdict.the-variants.{Sound}
+use Rattle.device.specs.declared.ready.Picked.the-variants.{Ring as RingOf}
+use Rattle.device.specs.State.{ringOf}
+use Rattle.device.specs.Turn.{Call, ringAfter, finished, reportOf, servedOf, verdictOn}
+use Rattle.device.specs.Left.{Shaped}
+use Rattle.device.proofs.BytesLeft.{served-ring, other-ring}
+use Rattle.demands.specs.Calls.{headIn}
+use Rattle.demands.specs.Bounded.{served}
+use Rattle.demands.proofs.Turns.{pickIn, servedIn, workIn, picked-servable}
+
+module _ (limit : ℕ) (d : Device) (call : Call) (r : ℕ) where
+  -- the cursor of a served ring moves past its command
+  pub served-cursor : Shaped d → verdictOn d call ≡ Sound → pickIn d call ≡ RingOf r
+      → ringOf (servedIn limit d call r .turned .device) r .cursor ≡ ringOf d r .cursor + headIn d call r .size
+  unfolding servedOf finished ringAfter
+  served-cursor shaped sound pick =
+      ap (λ x. x .cursor) (served-ring d r (headIn d call r) (workIn limit d call r .performed) (omega (arith, picked-servable d call r sound pick .number, shaped .rings)))
+
+  pub served-others : (n : ℕ) → (n ≡ r → ⊥) → ringOf (servedIn limit d call r .turned .device) n .cursor ≡ ringOf d n .cursor
+  unfolding servedOf finished
+  served-others n other = ap (λ x. x .cursor) (other-ring d r (headIn d call r) (workIn limit d call r .performed) n other)
+
+  -- one command is taken
+  pub served-is : (n : ℕ) → served (servedIn limit d call r .turned .answer) n ≡ either (eqb n r) 1 0
+  unfolding servedOf finished reportOf served
+  served-is n = refl
