@@ -1,11 +1,23 @@
 -- The table of examples, by computation.
 -- Assumes nothing.
-use mathlib.Core.Path.{refl}
+use mathlib.Core.Path.{_≡_, refl}
+use native.Mathlib.Omega.{arith}
+use lib.ListN.{replicate}
+use Rattle.words.specs.Lanes.{lanesOf, lanewise}
+use Rattle.instruction.specs.Rows.{laneRow, vectorRow}
+use Rattle.instruction.specs.Decode.{unusedIs0, vectorOf, opOf, decoded}
+use Rattle.instruction.specs.Effect.{effectOf}
+use Rattle.instruction.specs.Vectors.{quadOf, withQuad, lanesOfQuads, broadcast}
+use Rattle.kernel.specs.Registers.{startRegisters, withVector}
+use Rattle.kernel.specs.Thread.{started, writtenVector, movedTo, advanced}
+use Rattle.kernel.specs.Step.{goesOn, applied, executed}
 use Rattle.kernel.proofs.Examples as kernel
-use Rattle.demands.specs.Table.{colored, ringNamed, Table}
+use Rattle.kernel.specs.Examples.{afterWord}
+use Rattle.demands.specs.Table.{colored, ringNamed, holding, vector, Table}
 use Rattle.device.specs.State.{freshDevice, ringOf, slotOf, withRing, withSlot, withMarker}
 use Rattle.device.specs.Refusal.{windowFits, memoryFits, windowsFit, ringSound, stateSound, ringFits, ringsFit, verdictOf}
 use Rattle.device.specs.Ready.{readyWith, readyWhere, readyAt, nextRing, seek, bytesOfRing, pickOf}
+use Rattle.device.specs.Answer.{valuesOf}
 use Rattle.device.specs.Turn.{unchanged, fenceOf, emitTo, ringAfter, deviceAfter, reportOf, finished, servedOf, pickedOf, judgedOf, verdictOn, turnOf}
 use Rattle.command.specs.Choice.{either}
 use Rattle.command.specs.Table.{rowOf}
@@ -24,19 +36,30 @@ use Rattle.memory.specs.Rectangle.{rectangleEnd, filledRow, filled}
 use Rattle.memory.specs.Window.{windowOf, putBack}
 use Rattle.kernel.specs.Pack.{kernelCount, firstWord, kernelWords, codeCount, liesInCode, allLie, soundPack, kernelOf}
 
+vadd : (vector 3 (afterWord 0x0020A1AF (holding 0x010000FF 0x01000001)) ≡ broadcast 0x02000000)
+    × (vector 3 (afterWord 0x002091AF (holding 0x010000FF 0x01000001)) ≡ broadcast 0x02000100)
+unfolding afterWord started startRegisters executed decoded opOf vectorOf unusedIs0 vectorRow laneRow effectOf applied goesOn advanced movedTo writtenVector withVector withQuad quadOf lanesOfQuads lanesOf lanewise
+vadd = (refl, refl)
+
 pub table : Table
-unfolding colored ringNamed freshDevice ringOf slotOf withRing withSlot withMarker windowFits memoryFits windowsFit ringSound stateSound ringFits ringsFit verdictOf readyWith readyWhere readyAt nextRing seek bytesOfRing pickOf unchanged fenceOf emitTo ringAfter deviceAfter reportOf finished servedOf pickedOf judgedOf verdictOn turnOf either rowOf waitSize payloadSize targetAt commandAt isWhole outcomeNumber unknownOpcode wrongPayloadBit noSuchSlot headerFault frameMisaligned frameUnfit frameFault heldFault strideOf isRectangle sizeOf widthOf heightOf tooNarrow endOf slotFault misaligned unframed outside unfitFrame outOfRange unfitDispatch checkOf emits interrupts wordsRead leaves ranOutcome dispatchedBy afterDispatch heldBy workOf orElse faultOf guarded performedOf after halfAt wordAt withByte withHalf withWord rectangleEnd filledRow filled windowOf putBack kernelCount firstWord kernelWords codeCount liesInCode allLie soundPack kernelOf
+unfolding valuesOf colored ringNamed freshDevice ringOf slotOf withRing withSlot withMarker windowFits memoryFits windowsFit ringSound stateSound ringFits ringsFit verdictOf readyWith readyWhere readyAt nextRing seek bytesOfRing pickOf unchanged fenceOf emitTo ringAfter deviceAfter reportOf finished servedOf pickedOf judgedOf verdictOn turnOf either rowOf waitSize payloadSize targetAt commandAt isWhole outcomeNumber unknownOpcode wrongPayloadBit noSuchSlot headerFault frameMisaligned frameUnfit frameFault heldFault strideOf isRectangle sizeOf widthOf heightOf tooNarrow endOf slotFault misaligned unframed outside unfitFrame outOfRange unfitDispatch checkOf emits interrupts wordsRead leaves ranOutcome dispatchedBy afterDispatch heldBy workOf orElse faultOf guarded performedOf after halfAt wordAt withByte withHalf withWord rectangleEnd filledRow filled windowOf putBack kernelCount firstWord kernelWords codeCount liesInCode allLie soundPack kernelOf
 table = record {
-  p1 = refl;
+  p1 = (refl, refl);
   p2 = refl;
   p3 = refl;
   p4 = kernel.p4 .1;
   p5 = kernel.p5 .1;
   p6 = kernel.p6;
   p7 = kernel.p7 .1;
-  p8 = kernel.p8;
-  p9 = kernel.p9;
-  p10 = kernel.p10;
+  p8 = (
+    λ groups threads window hg ht small. let run = kernel.p8 groups threads window hg ht small in record { outcome = rw run; kept = rw run },
+    rw (kernel.p8 1 1 (replicate 64 0) (omega arith) (omega arith) (omega arith)),
+  );
+  p9 = (
+    λ groups threads window hg ht. let run = kernel.p9 groups threads window hg ht in record { outcome = rw run; kept = rw run },
+    rw (kernel.p9 1 1 (replicate 64 0) (omega arith) (omega arith)),
+  );
+  p10 = vadd;
   p11 = refl;
   p12 = refl;
 }

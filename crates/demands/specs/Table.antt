@@ -5,24 +5,24 @@ use mathlib.Core.Bool.{false}
 use mathlib.Core.List.{List, [], _∷_, _++_}
 use lib.ListN.{length, replicate}
 use Rattle.words.specs.Bytes.{byteOf}
-use Rattle.words.specs.declared.lanes.LaneOp.the-variants.{Add}
-use Rattle.words.specs.declared.lanes.LaneType.the-variants.{I16, I8}
-use Rattle.words.specs.Lanes.{lanesOf}
+use Rattle.memory.specs.declared.quad.Quad.{Quad}
 use Rattle.memory.specs.Place.{withWord}
 use Rattle.instruction.specs.declared.list.Op.the-variants.{Unary}
 use Rattle.instruction.specs.declared.list.UnaryOp.the-variants.{Abs}
-use Rattle.instruction.specs.declared.effect.Stop.the-variants.{OutsideTheWindow as NotInTheWindow, OutOfSteps}
 use Rattle.instruction.specs.Decode.{opOf}
-use Rattle.kernel.specs.declared.dispatch.Ran.the-variants.{Stopped}
-use Rattle.kernel.specs.Dispatch.{dispatchOf}
+use Rattle.instruction.specs.Vectors.{quadOf, broadcast}
+use Rattle.kernel.specs.declared.thread.Thread.{Thread}
+use Rattle.kernel.specs.Thread.{writtenVector}
+use Rattle.kernel.specs.Dispatch.{Dispatched, dispatchOf}
 use Rattle.kernel.specs.Examples.{freshThread, afterWord, scalar, packOf}
-use Rattle.command.specs.declared.outcome.Outcome.{Outcome}
-use Rattle.command.specs.declared.outcome.Outcome.the-variants.{NoFrame, OutsideTheWindow}
 use Rattle.command.specs.declared.frame.Frame.the-variants.{Held}
+use Rattle.command.specs.Outcome.{outcomeNumber}
+use Rattle.command.specs.Work.{ranOutcome}
 use Rattle.device.specs.declared.state.Device.{Device}
 use Rattle.device.specs.declared.turn.Answer.{Answer}
 use Rattle.device.specs.declared.turn.Answer.the-variants.{Refused, Idle, Served}
 use Rattle.device.specs.State.{emptyWindow, freshRing}
+use Rattle.device.specs.Answer.{Values, valuesOf}
 use Rattle.device.specs.Turn.{Call, callOf, turnOf}
 
 -- a word's bytes, and a command's 16 bytes
@@ -54,9 +54,26 @@ unfoldable pub colored : List ℕ → ℕ → List ℕ
 colored [] n = replicate n 0
 colored (a ∷ places) n = withWord (colored places n) a 0xAABBCCDD
 
--- the outcome of a turn that served
-abbrev pub served0 : Outcome → Answer
-served0 outcome = Served (record { ring = 0; outcome = outcome; fence = 0; words = 0; irq = false })
+-- what is reported of a turn that serves ring 0: this outcome, no fence, no words read and no IRQ
+abbrev pub outcomeOn0 : ℕ → Values
+outcomeOn0 number = record { ring = 0; outcome = number; fence = 0; words = 0; irq = false }
+
+-- a dispatch has this outcome, and leaves the window as it was
+pub record EndsWith (number : ℕ) (window : List ℕ) (d : Dispatched) : Type 0 where
+  pub outcome : outcomeNumber (ranOutcome (d .ran)) ≡ number
+  pub kept : d .window ≡ window
+
+-- DISPATCH_1D of one thread in a kernel of one word
+abbrev pub oneThread : ℕ → Call
+oneThread w = callOf (replicate 64 0) (header 0x20 0 0 0 1 1 0) [] [] [] (packOf w) (replicate 1020 0)
+
+-- a thread with x in each word of v1, and y in each of v2
+abbrev pub holding : ℕ → ℕ → Thread
+holding x y = writtenVector (writtenVector freshThread 1 (broadcast x)) 2 (broadcast y)
+
+-- the four words of vector register n
+abbrev pub vector : ℕ → Thread → Quad
+vector n t = quadOf (t .registers .vectors) n
 
 -- the ring that an answer names; 4 for none
 unfoldable pub ringNamed : Answer → ℕ
@@ -85,11 +102,12 @@ first4 call order =
 
 pub record Table : Type 0 where
   -- window 64, stride 16, fill at 4, 2 by 3: words at 4, 8, 20, 24, 36, 40
-  pub p1 : turnOf 4096 (framed 64 0) (fillAt4 64 2 3) .memory ≡ colored (4 ∷ 8 ∷ 20 ∷ 24 ∷ 36 ∷ 40 ∷ []) 64
+  pub p1 : (valuesOf (turnOf 4096 (framed 64 0) (fillAt4 64 2 3) .turned .answer) ≡ outcomeOn0 0)
+      × (turnOf 4096 (framed 64 0) (fillAt4 64 2 3) .memory ≡ colored (4 ∷ 8 ∷ 20 ∷ 24 ∷ 36 ∷ 40 ∷ []) 64)
   -- window 40: 8 (the end is 44)
-  pub p2 : turnOf 4096 (framed 40 0) (fillAt4 40 2 3) .turned .answer ≡ served0 OutsideTheWindow
+  pub p2 : valuesOf (turnOf 4096 (framed 40 0) (fillAt4 40 2 3) .turned .answer) ≡ outcomeOn0 8
   -- width 5: 7
-  pub p3 : turnOf 4096 (framed 64 0) (fillAt4 64 5 3) .turned .answer ≡ served0 NoFrame
+  pub p3 : valuesOf (turnOf 4096 (framed 64 0) (fillAt4 64 5 3) .turned .answer) ≡ outcomeOn0 7
   -- FFF00297 (ADDI s5, s0, -1): 4,294,967,295
   pub p4 : scalar 5 (afterWord 0xFFF00297 freshThread) ≡ 4294967295
   -- then 0052830B (ADD s6, s5, s5): 4,294,967,294
@@ -98,14 +116,17 @@ pub record Table : Type 0 where
   pub p6 : (opOf 0x0002930B ≡ Unary Abs) × (scalar 6 (afterWord 0x0002930B (afterWord 0xFFF00297 freshThread)) ≡ 1)
   -- 0600030B (CLZ of s0): 32
   pub p7 : scalar 6 (afterWord 0x0600030B freshThread) ≡ 32
-  -- FE502E0D (SW at -4 from s0): 13
-  pub p8 : (groups threads : ℕ) (window : List ℕ) → 1 ≤ groups → 1 ≤ threads → length window < 2 ^ 32
-      → dispatchOf 4096 (packOf 0xFE502E0D) 0 groups threads window ≡ record { ran = Stopped NotInTheWindow; window = window }
+  -- FE502E0D (SW at -4 from s0): 13, in any dispatch and as a whole turn
+  pub p8 : ((groups threads : ℕ) (window : List ℕ) → 1 ≤ groups → 1 ≤ threads → length window < 2 ^ 32
+      → EndsWith 13 window (dispatchOf 4096 (packOf 0xFE502E0D) 0 groups threads window))
+      × (valuesOf (turnOf 4096 (framed 64 0) (oneThread 0xFE502E0D) .turned .answer) ≡ outcomeOn0 13)
   -- 0000000E branches to itself: 14
-  pub p9 : (groups threads : ℕ) (window : List ℕ) → 1 ≤ groups → 1 ≤ threads
-      → dispatchOf 4096 (packOf 0x0000000E) 0 groups threads window ≡ record { ran = Stopped OutOfSteps; window = window }
-  -- VADD.I8 of 010000FF and 01000001: 02000000; as I16: 02000100
-  pub p10 : (lanesOf Add I8 0x010000FF 0x01000001 ≡ 0x02000000) × (lanesOf Add I16 0x010000FF 0x01000001 ≡ 0x02000100)
+  pub p9 : ((groups threads : ℕ) (window : List ℕ) → 1 ≤ groups → 1 ≤ threads
+      → EndsWith 14 window (dispatchOf 4096 (packOf 0x0000000E) 0 groups threads window))
+      × (valuesOf (turnOf 4096 (framed 64 0) (oneThread 0x0000000E) .turned .answer) ≡ outcomeOn0 14)
+  -- VADD.I8 of 010000FF and 01000001: 02000000; as I16: 02000100 (0020A1AF and 002091AF, v1 and v2 to v3)
+  pub p10 : (vector 3 (afterWord 0x0020A1AF (holding 0x010000FF 0x01000001)) ≡ broadcast 0x02000000)
+      × (vector 3 (afterWord 0x002091AF (holding 0x010000FF 0x01000001)) ≡ broadcast 0x02000100)
   -- marker 1, all ready: order 1, 2, 3, 0
   pub p11 : first4 (lent 64 barrier barrier barrier barrier) (1, 2, 3, 0)
   -- two rings, each waiting for the other's next emit: idle at once
