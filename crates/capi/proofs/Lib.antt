@@ -3,3 +3,4 @@ pub mod WordBytes
 pub mod Sizes
 pub mod Inverse
 pub mod Follows
+pub mod OneAnswer

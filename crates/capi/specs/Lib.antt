@@ -3,3 +3,4 @@ pub mod Report
 pub mod Calls
 pub mod Inverse
 pub mod Follows
+pub mod OneAnswer

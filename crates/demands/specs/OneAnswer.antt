@@ -14,6 +14,8 @@ use Rattle.device.specs.Turn.{After, Shows as ShowsTurn}
 pub record OneAnswer : Type 1 where
   -- of a function whose contract says that its result, or what it leaves, is x
   pub value : {A : Type 0} (x r₁ r₂ : A) → r₁ ≡ x → r₂ ≡ x → r₁ ≡ r₂
+  -- of one whose contract says both
+  pub pair : {A B : Type 0} (x r₁ r₂ : A) (y m₁ m₂ : B) → (r₁ ≡ x) × (m₁ ≡ y) → (r₂ ≡ x) × (m₂ ≡ y) → (r₁ ≡ r₂) × (m₁ ≡ m₂)
   -- of a step and a run
   pub step : (s : State) (r₁ r₂ : Stepped) (m₁ m₂ : List ℕ) → ShowsStep r₁ m₁ s → ShowsStep r₂ m₂ s → (r₁ ≡ r₂) × (m₁ ≡ m₂)
   -- of a dispatch

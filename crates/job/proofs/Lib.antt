@@ -8,3 +8,4 @@ pub mod DecimalLaws
 pub mod Stores
 pub mod LineLaws
 pub mod WholeCase
+pub mod OneAnswer

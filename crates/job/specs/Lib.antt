@@ -7,3 +7,4 @@ pub mod Parse
 pub mod Put
 pub mod Decimal
 pub mod Line
+pub mod OneAnswer

@@ -4,3 +4,4 @@ pub mod Lines
 pub mod TextLaws
 pub mod InPlay
 pub mod JobText
+pub mod OneAnswer
