@@ -2,9 +2,9 @@
  * standard output, and what they met on standard error. */
 #include <inttypes.h>
 #include <stdio.h>
-#include <stdlib.h>
 
 #include "cases/cases.h"
+#include "cases/number.h"
 #include "cases/tally.h"
 #include "image.h"
 #include "records.h"
@@ -43,14 +43,12 @@ static void tell(uint64_t drawn, uint64_t count)
 int main(int argc, char **argv)
 {
     struct call *before = call_new(), *after = call_new();
-    uint64_t drawn = 0, written = 0;
+    uint64_t seed, count, drawn = 0, written = 0;
 
-    if (argc != 3) {
+    if (argc != 3 || !number_of(argv[1], &seed) || !number_of(argv[2], &count)) {
         fprintf(stderr, "usage: record SEED COUNT > FILE\n");
         return 2;
     }
-    uint64_t seed = strtoull(argv[1], NULL, 10);
-    uint64_t count = strtoull(argv[2], NULL, 10);
     while (written < count)
         written += (uint64_t)record_case(seed, drawn++, before, after);
     tell(drawn, count);

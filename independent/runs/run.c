@@ -4,10 +4,10 @@
 #include <errno.h>
 #include <inttypes.h>
 #include <stdio.h>
-#include <stdlib.h>
 #include <string.h>
 
 #include "cases/jobs.h"
+#include "cases/number.h"
 #include "runs/outputs.h"
 #include "runs/spawn.h"
 
@@ -87,15 +87,17 @@ static int one(uint64_t seed, uint64_t number)
 
 int main(int argc, char **argv)
 {
-    if (argc == 4 && strcmp(argv[1], "--one") == 0)
-        return one(strtoull(argv[2], NULL, 10), strtoull(argv[3], NULL, 10));
-    if (argc < 4) {
+    uint64_t cases, seed, number;
+
+    if (argc == 4 && strcmp(argv[1], "--one") == 0
+        && number_of(argv[2], &seed) && number_of(argv[3], &number))
+        return one(seed, number);
+    if (argc < 4 || !number_of(argv[1], &cases) || !number_of(argv[2], &seed)) {
         fprintf(stderr, "usage: run CASES SEED COMMAND.. | run --one SEED CASE "
                 "> FILE\n");
         return 2;
     }
-    uint64_t cases = strtoull(argv[1], NULL, 10);
-    if (!compare(cases, strtoull(argv[2], NULL, 10), argv + 3)) {
+    if (!compare(cases, seed, argv + 3)) {
         fprintf(stderr, "run: cannot run %s: %s\n", argv[3], strerror(errno));
         return 2;
     }

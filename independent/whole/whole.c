@@ -2,9 +2,9 @@
  * and fv_turn) and on the independent one; all they leave is compared. */
 #include <inttypes.h>
 #include <stdio.h>
-#include <stdlib.h>
 
 #include "cases/cases.h"
+#include "cases/number.h"
 #include "cases/tally.h"
 #include "image.h"
 #include "whole/whole.h"
@@ -26,14 +26,12 @@ static void tell(uint64_t seed, uint64_t number, int piece,
 int main(int argc, char **argv)
 {
     struct call *before = call_new(), *got = call_new(), *wanted = call_new();
-    uint64_t different = 0;
+    uint64_t count, seed, different = 0;
 
-    if (argc != 3) {
+    if (argc != 3 || !number_of(argv[1], &count) || !number_of(argv[2], &seed)) {
         fprintf(stderr, "usage: whole COUNT SEED\n");
         return 2;
     }
-    uint64_t count = strtoull(argv[1], NULL, 10);
-    uint64_t seed = strtoull(argv[2], NULL, 10);
     for (uint64_t n = 0; n < count; n++) {
         draw_case(before, seed, n);
         draw_lengths(before, seed, n);
