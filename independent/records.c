@@ -3,7 +3,7 @@
 #include <string.h>
 
 #include "image.h"
-#include "kernels/generate.h"
+#include "kernels/packs.h"
 
 /* A piece of a record: which, and of the call before or after it was made. */
 struct part {

@@ -5,7 +5,7 @@
 #include <string.h>
 
 #include "image.h"
-#include "kernels/generate.h"
+#include "kernels/packs.h"
 
 /* A little more than a device takes, so that what is too long can be lent. */
 static const size_t most[PIECES] = {

@@ -1,6 +1,7 @@
 /* Calls of fresh. */
 #include "cases/draw.h"
 #include "device.h"
+#include "kernels/packs.h"
 
 static uint64_t any_span(struct chance *c)
 {

@@ -1,5 +1,6 @@
 /* The pack of a scene. */
 #include "cases/scene.h"
+#include "kernels/packs.h"
 #include "kernels/table.h"
 #include "parts.h"
 

@@ -4,7 +4,7 @@
 
 #include "cases/call.h"
 #include "device.h"
-#include "kernels/generate.h"
+#include "kernels/styles.h"
 
 /* What a ring's head command is. */
 enum head {

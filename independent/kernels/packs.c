@@ -1,5 +1,36 @@
 #include "packs.h"
 
+void put_word(uint8_t *bytes, uint32_t word)
+{
+    for (uint32_t i = 0; i < 4; i++)
+        bytes[i] = (uint8_t)(word >> (8 * i));
+}
+
+uint32_t get_word(const uint8_t *bytes)
+{
+    return bytes[0] | (uint32_t)bytes[1] << 8 | (uint32_t)bytes[2] << 16
+        | (uint32_t)bytes[3] << 24;
+}
+
+uint32_t lay_pack(uint8_t *pack, uint32_t kernels, const uint32_t *first,
+                  const uint32_t *words, const uint32_t *code,
+                  uint32_t code_words)
+{
+    uint8_t *at = pack;
+
+    put_word(at, kernels);
+    at += 4;
+    for (uint32_t i = 0; i < kernels; i++, at += 8) {
+        put_word(at, first[i]);
+        put_word(at + 4, words[i]);
+    }
+    put_word(at, code_words);
+    at += 4;
+    for (uint32_t i = 0; i < code_words; i++, at += 4)
+        put_word(at, code[i]);
+    return (uint32_t)(at - pack);
+}
+
 /* A pair in the code, or at an edge of it. */
 static void any_pair(struct chance *c, uint32_t code, uint32_t *first,
                      uint32_t *words)

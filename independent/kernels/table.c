@@ -1,7 +1,5 @@
 #include "table.h"
 
-#include <stdio.h>
-
 #define F3(n) ((uint32_t)(n) << 12)
 #define F7(n) ((uint32_t)(n) << 25)
 #define F6(n) ((uint32_t)(n) << 26)
@@ -69,28 +67,6 @@ int row_of(uint32_t word)
     return -1;
 }
 
-static int32_t signed_of(uint32_t value, uint32_t bits)
-{
-    return value >> (bits - 1) != 0 ? (int32_t)value - (1 << bits)
-                                    : (int32_t)value;
-}
-
-int32_t imm_i_of(uint32_t w)
-{
-    return signed_of(w >> 20, 12);
-}
-
-int32_t imm_s_of(uint32_t w)
-{
-    return signed_of((w >> 25 << 5) | rd_of(w), 12);
-}
-
-int32_t imm_b_of(uint32_t w)
-{
-    return signed_of((w >> 31 << 12) | ((w >> 7 & 1) << 11)
-                     | ((w >> 25 & 63) << 5) | ((w >> 8 & 15) << 1), 13);
-}
-
 uint32_t word_r(int row, uint32_t rd, uint32_t rs1, uint32_t rs2)
 {
     return table[row].match | (rd & 31) << 7 | (rs1 & 31) << 15
@@ -123,57 +99,4 @@ uint32_t word_b(int row, uint32_t rs1, uint32_t rs2, int32_t offset)
 uint32_t word_u(int row, uint32_t rd, uint32_t high)
 {
     return table[row].match | (rd & 31) << 7 | (high & 0xFFFFF) << 12;
-}
-
-void spell(uint32_t w, char *text, unsigned size)
-{
-    int row = row_of(w);
-    const char *n = row < 0 ? "?" : table[row].name;
-    unsigned d = rd_of(w), a = rs1_of(w), b = rs2_of(w);
-
-    switch (row < 0 ? SHAPE_FIXED : table[row].shape) {
-    case SHAPE_R:
-        snprintf(text, size, "%s s%u, s%u, s%u", n, d, a, b);
-        break;
-    case SHAPE_ABS:
-    case SHAPE_COUNT:
-        snprintf(text, size, "%s s%u, s%u", n, d, a);
-        break;
-    case SHAPE_I:
-        snprintf(text, size, "%s s%u, s%u, %d", n, d, a, (int)imm_i_of(w));
-        break;
-    case SHAPE_SHAMT:
-        snprintf(text, size, "%s s%u, s%u, %u", n, d, a, b);
-        break;
-    case SHAPE_U:
-        snprintf(text, size, "%s s%u, 0x%05X", n, d, (unsigned)(w >> 12));
-        break;
-    case SHAPE_B:
-        snprintf(text, size, "%s s%u, s%u, %+d", n, a, b, (int)imm_b_of(w));
-        break;
-    case SHAPE_LOAD:
-        snprintf(text, size, "%s s%u, %d(s%u)", n, d, (int)imm_i_of(w), a);
-        break;
-    case SHAPE_STORE:
-        snprintf(text, size, "%s s%u, %d(s%u)", n, b, (int)imm_s_of(w), a);
-        break;
-    case SHAPE_FIXED:
-        snprintf(text, size, "%s", n);
-        break;
-    case SHAPE_V:
-        snprintf(text, size, "%s v%u, v%u, v%u", n, d, a, b);
-        break;
-    case SHAPE_VBCAST:
-        snprintf(text, size, "%s v%u, s%u", n, d, a);
-        break;
-    case SHAPE_VEXTR:
-        snprintf(text, size, "%s s%u, v%u", n, d, a);
-        break;
-    case SHAPE_VLD:
-        snprintf(text, size, "%s v%u, (s%u)", n, d, a);
-        break;
-    case SHAPE_VST:
-        snprintf(text, size, "%s v%u, (s%u)", n, b, a);
-        break;
-    }
 }

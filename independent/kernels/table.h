@@ -52,15 +52,6 @@ extern const struct row table[ROWS];
 /* The row of a word, or -1. */
 int row_of(uint32_t word);
 
-/* ---- fields ---- */
-
-static inline uint32_t rd_of(uint32_t w) { return w >> 7 & 31; }
-static inline uint32_t rs1_of(uint32_t w) { return w >> 15 & 31; }
-static inline uint32_t rs2_of(uint32_t w) { return w >> 20 & 31; }
-int32_t imm_i_of(uint32_t word);
-int32_t imm_s_of(uint32_t word);
-int32_t imm_b_of(uint32_t word);
-
 /* ---- words ---- */
 
 uint32_t word_r(int row, uint32_t rd, uint32_t rs1, uint32_t rs2);
@@ -68,8 +59,5 @@ uint32_t word_i(int row, uint32_t rd, uint32_t rs1, int32_t imm);
 uint32_t word_s(int row, uint32_t rs1, uint32_t rs2, int32_t imm);
 uint32_t word_b(int row, uint32_t rs1, uint32_t rs2, int32_t offset);
 uint32_t word_u(int row, uint32_t rd, uint32_t high);
-
-/* Writes the word's text, as "ADDI s5, s0, -1". */
-void spell(uint32_t word, char *text, unsigned size);
 
 #endif
