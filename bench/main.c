@@ -1,7 +1,7 @@
-/* bench list                      a line for each work: name, unit, units in a round, the same of a few, few
- * bench time SIDE WORK            nanoseconds of a round, the best of several
- * bench play SIDE WORK N ROUNDS   plays so many rounds of amount N
- * bench sum SIDE WORK             the sum of what a round leaves */
+/* bench list                           a line for each work: name, unit, units in an amount of 1, two amounts: for times, for counts
+ * bench time SIDE WORK AMOUNT          nanoseconds of a round, the best of several
+ * bench sum SIDE WORK AMOUNT           the sum of what a round leaves
+ * bench play SIDE WORK AMOUNT ROUNDS   plays so many rounds */
 #include <stdio.h>
 #include <stdlib.h>
 #include <string.h>
@@ -28,73 +28,80 @@ static const struct work works[] = {
     {"vector kernel", "step", THREAD_STEPS, 4096, 4, queue_vector},
 };
 
-enum { WORKS = sizeof works / sizeof *works, TRIES = 5 };
+enum { SIDES = sizeof sides / sizeof *sides, WORKS = sizeof works / sizeof *works, TRIES = 5 };
 
-static uint64_t now(void)
+/* Of the processor: other programs' time is not in it. */
+static double best_time(struct scene *scene)
 {
-    struct timespec at;
-
-    need(timespec_get(&at, TIME_UTC) == TIME_UTC, "there is no clock");
-    return (uint64_t)at.tv_sec * 1000000000u + (uint64_t)at.tv_nsec;
-}
-
-static uint64_t best_time(struct scene *scene)
-{
-    uint64_t best = UINT64_MAX;
+    clock_t best = 0;
 
     for (int i = 0; i < TRIES; i++) {
-        uint64_t from = now();
+        clock_t from = clock();
         scene_round(scene);
-        uint64_t took = now() - from;
-        best = took < best ? took : best;
+        clock_t took = clock() - from;
+        best = i == 0 || took < best ? took : best;
     }
-    return best;
+    return 1e9 * (double)best / CLOCKS_PER_SEC;
 }
 
 static int list(void)
 {
     for (int i = 0; i < WORKS; i++)
-        printf("%s\t%s\t%u\t%u\t%u\n", works[i].name, works[i].unit, works[i].units * works[i].amount,
-               works[i].units * works[i].few, works[i].few);
+        printf("%s\t%s\t%u\t%u\t%u\n", works[i].name, works[i].unit, works[i].units, works[i].amount, works[i].few);
     return 0;
+}
+
+static _Noreturn void usage(void)
+{
+    fputs("usage: bench list | time SIDE WORK AMOUNT | sum SIDE WORK AMOUNT | play SIDE WORK AMOUNT ROUNDS\n", stderr);
+    exit(2);
 }
 
 static const struct side *side_of(const char *name)
 {
-    int k = strcmp(name, sides[0].name) == 0 ? 0 : 1;
-    need(strcmp(name, sides[k].name) == 0, "no such side");
-    return &sides[k];
+    for (int k = 0; k < SIDES; k++)
+        if (strcmp(name, sides[k].name) == 0)
+            return &sides[k];
+    usage();
 }
 
 static const struct work *work_of(const char *name)
 {
-    int i = 0;
-
-    while (i < WORKS && strcmp(name, works[i].name) != 0)
-        i++;
-    need(i < WORKS, "no such work");
-    return &works[i];
+    for (int i = 0; i < WORKS; i++)
+        if (strcmp(name, works[i].name) == 0)
+            return &works[i];
+    usage();
 }
 
-static void play(struct scene *scene, unsigned long rounds)
+/* A plain decimal number, from 1 to nine digits. */
+static uint32_t number_of(const char *word)
 {
-    for (unsigned long i = 0; i < rounds; i++)
-        scene_round(scene);
+    size_t digits = strspn(word, "0123456789");
+
+    if (word[0] == '0' || digits == 0 || digits > 9 || word[digits] != '\0')
+        usage();
+    return (uint32_t)strtoul(word, NULL, 10);
 }
 
 int main(int count, char **words)
 {
-    if (count == 2 && strcmp(words[1], "list") == 0)
+    const char *what = count > 1 ? words[1] : "";
+
+    if (count == 2 && strcmp(what, "list") == 0)
         return list();
-    need(count == 4 || count == 6, "usage: bench list | time SIDE WORK | sum SIDE WORK | play SIDE WORK N ROUNDS");
+    int plays = strcmp(what, "play") == 0, times = strcmp(what, "time") == 0;
+    if (count != 5 + plays || (!plays && !times && strcmp(what, "sum") != 0))
+        usage();
+    uint32_t rounds = plays ? number_of(words[5]) : 1;
     struct scene *scene = scene_new(side_of(words[2]));
-    const struct work *work = work_of(words[3]);
-    work->queue(scene, count == 6 ? (uint32_t)strtoul(words[4], NULL, 10) : work->amount);
-    if (strcmp(words[1], "time") == 0)
-        printf("%llu\n", (unsigned long long)best_time(scene));
-    else
-        play(scene, count == 6 ? strtoul(words[5], NULL, 10) : 1);
-    if (strcmp(words[1], "sum") == 0)
+    work_of(words[3])->queue(scene, number_of(words[4]));
+    if (times) {
+        printf("%.0f\n", best_time(scene));
+        return 0;
+    }
+    for (uint32_t i = 0; i < rounds; i++)
+        scene_round(scene);
+    if (!plays)
         printf("%u\n", scene_sum(scene));
     return 0;
 }
