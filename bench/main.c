@@ -1,4 +1,4 @@
-/* bench list                           a line for each work: name, unit, units in an amount of 1, two amounts: for times, for counts
+/* bench list                           each work: name, unit, units in an amount of 1, amounts for a time and a count
  * bench time SIDE WORK AMOUNT          nanoseconds of a round, the best of several
  * bench sum SIDE WORK AMOUNT           the sum of what a round leaves
  * bench play SIDE WORK AMOUNT ROUNDS   plays so many rounds */

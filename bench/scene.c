@@ -48,8 +48,7 @@ static void set_frames(struct scene *scene)
         struct fv_ring *ring = &scene->lent.rings[q];
         need(fv_set_fb(ring, fv_none(), 0, SCENE_STRIDE, 0), "a ring has no room");
         need(fv_turn_by(scene->side->turn, scene->image, &scene->lent).outcome == FV_OUTCOME_DONE, "no frame");
-        fv_put_word(scene->image + 4 * (FV_IMAGE_RING_WORDS * q + 2), 0);
-        ring->length = 0;
+        fv_restart(ring, scene->image, q);
     }
     memcpy(scene->start, scene->image, FV_IMAGE_BYTES);
 }

@@ -13,14 +13,12 @@ void queue_copies(struct scene *scene, uint32_t commands)
 
 void queue_blit(struct scene *scene, uint32_t rows)
 {
-    need(fv_blit(&scene->lent.rings[0], fv_none(), SCENE_HALF, 0, fv_size(SCENE_STRIDE / 4, rows)),
-         "a ring has no room");
+    need(fv_blit(&scene->lent.rings[0], fv_none(), SCENE_HALF, 0, SCENE_STRIDE / 4, rows), "a ring has no room");
     scene->turns = 1;
 }
 
 void queue_fill(struct scene *scene, uint32_t rows)
 {
-    need(fv_fill_rect(&scene->lent.rings[0], fv_none(), 0, fv_size(SCENE_STRIDE / 4, rows), 0x00A5C3E1),
-         "a ring has no room");
+    need(fv_fill_rect(&scene->lent.rings[0], fv_none(), 0, SCENE_STRIDE / 4, rows, 0x00A5C3E1), "a ring has no room");
     scene->turns = 1;
 }

@@ -31,6 +31,7 @@ enum {
     FV_HEADER_BYTES = 16,
     FV_COMMAND_MOST = 1040,       /* header, target and 255 words of payload */
     FV_LEN_MOST = 255,
+    FV_SIDE_MOST = 65535,         /* width and height */
     FV_STRIDE_LEAST = 4,
     FV_STRIDE_MOST = 65536,
     FV_GROUPS_MOST = 64,
@@ -49,24 +50,27 @@ enum {
 enum {
     FV_MADE = 0,                  /* fv_fresh: the device is made */
     FV_SERVED = 0,                /* fv_turn: one command was taken; the report tells of it */
-    FV_IDLE = 1,                  /* no ring is ready; nothing changed */
+    FV_IDLE = 1,                  /* fv_turn: no ring is ready; image, memory and pipe are as they were */
 
-    /* The whole call is refused, in this order: state, memory and pipe are as they were. */
+    /* The whole call is refused, for the first of these that applies. After fv_turn
+     * image, memory and pipe are as they were. fv_fresh can give 101 alone, and
+     * writes a fresh device of four empty windows. */
     FV_REFUSED_MEMORY = 101,      /* memory too long, or a window outside it or not in multiples of 4 */
     FV_REFUSED_STATE = 102,       /* marker above 3, cursor above 65,536, or a held frame that SET_FB would refuse */
     FV_REFUSED_RINGS = 103,       /* a ring too long or shorter than its cursor */
     FV_REFUSED_PIPE = 104,        /* pipe under 1,020 bytes */
     FV_REFUSED_PACK = 105,        /* faulty pack */
 
-    /* A piece of the wrong length: nothing is changed, the report neither. */
+    /* A piece of the wrong length: nothing is written, the report neither. */
     FV_WRONG_IMAGE = 201,         /* not 372 bytes */
     FV_WRONG_REPORT = 202,        /* not 24 bytes */
     FV_WRONG_WINDOWS = 203        /* not 32 bytes */
 };
 
 /* ---- what became of a served command ----
- * Of 1 to 10 the smallest that applies is given; they change no memory, pipe or
- * frame. 11 to 14 keep the stores made before the stop and end the whole dispatch. */
+ * The cursor moves past it in any case. Of 1 to 10 the smallest that applies is
+ * given; they change no memory, pipe or frame. 11 to 14 keep the stores made before
+ * the stop and end the whole dispatch. */
 
 enum {
     FV_OUTCOME_DONE = 0,
@@ -91,7 +95,7 @@ enum {
 enum {
     FV_WRITE_MEM = 0x01,          /* payload to arg0 */
     FV_READ_MEM = 0x02,           /* len words from arg0 to the pipe's front */
-    FV_FILL_RECT = 0x10,          /* arg0 dst, arg1 size, arg2 color */
+    FV_FILL_RECT = 0x10,          /* arg0 dst, arg1 size: width + 65,536 * height, arg2 color */
     FV_BLIT = 0x11,               /* arg0 dst, arg1 src, arg2 size */
     FV_DISPATCH_1D = 0x20,        /* arg0 groups, arg1 threads in a group, arg2 kernel */
     FV_BARRIER = 0x22,            /* nothing: each command ends in its turn */
@@ -99,10 +103,14 @@ enum {
     FV_SET_FB = 0x30              /* arg0 base, arg1 stride, arg2 format */
 };
 
+/* An emit adds 1 to slot rdst after the work, with outcome 0 or 6 to 14: a command
+ * that fails with 6 to 14 still signals, one that fails with 1 to 5 does not.
+ * A wait keeps its ring from being ready until slot rdst holds at least the target;
+ * a command with a faulty header (outcome 1 to 4) does not wait. */
 enum {
     FV_FLAG_IRQ = 1,              /* the report tells it, unless the outcome is 1 to 4 */
-    FV_FLAG_EMIT = 2,             /* adds 1 to slot rdst after the work */
-    FV_FLAG_WAIT = 4,             /* not ready before slot rdst holds at least the target */
+    FV_FLAG_EMIT = 2,
+    FV_FLAG_WAIT = 4,             /* one word, the target, follows the header */
     FV_FLAG_PAYLOAD = 8           /* len words follow the header and the target */
 };
 
@@ -278,9 +286,18 @@ struct fv_ring {
     size_t length, room;
 };
 
+/* A ring does not wrap: once its commands are taken, this takes ring q back to its
+ * start, empty. */
+static inline void fv_restart(struct fv_ring *ring, uint8_t *image, uint32_t q)
+{
+    ring->length = 0;
+    fv_put_word(image + 4 * (FV_IMAGE_RING_WORDS * q + 2), 0);
+}
+
 /* One command, field by field: a sound one or, in a test, a faulty one. */
 struct fv_command {
-    uint8_t opcode, flags, rdst, len;
+    uint32_t opcode, flags, rdst; /* each at most 255 */
+    size_t len;                   /* at most FV_LEN_MOST */
     uint32_t arg0, arg1, arg2;
     uint32_t target;              /* with FV_FLAG_WAIT */
     const uint32_t *payload;      /* with FV_FLAG_PAYLOAD: len words */
@@ -289,18 +306,20 @@ struct fv_command {
 static inline size_t fv_command_bytes(const struct fv_command *command)
 {
     return FV_HEADER_BYTES + (command->flags & FV_FLAG_WAIT ? 4u : 0u)
-           + (command->flags & FV_FLAG_PAYLOAD ? 4u * command->len : 0u);
+           + (command->flags & FV_FLAG_PAYLOAD ? 4 * command->len : 0);
 }
 
-/* Gives 1; or 0 and appends nothing if there is no room. */
+/* Gives 1; or 0 and appends nothing if there is no room or a field does not fit. */
 static inline int fv_append(struct fv_ring *ring, const struct fv_command *command)
 {
     size_t size = fv_command_bytes(command);
     uint8_t *at = ring->bytes + ring->length;
-    const uint32_t header[4] = {command->opcode | (uint32_t)command->flags << 8 | (uint32_t)command->rdst << 16
+    const uint32_t header[4] = {command->opcode | command->flags << 8 | command->rdst << 16
                                     | (uint32_t)command->len << 24,
                                 command->arg0, command->arg1, command->arg2};
 
+    if ((command->opcode | command->flags | command->rdst | command->len) > 255)
+        return 0;
     if (ring->room - ring->length < size)
         return 0;
     at = fv_put_words(at, header, 4);
@@ -314,8 +333,8 @@ static inline int fv_append(struct fv_ring *ring, const struct fv_command *comma
 
 /* What a command does besides its work. One slot serves both wait and emit. */
 struct fv_sync {
-    uint8_t flags;                /* FV_FLAG_IRQ, FV_FLAG_EMIT, FV_FLAG_WAIT */
-    uint8_t rdst;                 /* the slot */
+    uint32_t flags;               /* FV_FLAG_IRQ, FV_FLAG_EMIT, FV_FLAG_WAIT */
+    uint32_t rdst;                /* the slot */
     uint32_t target;              /* the number to wait for */
 };
 
@@ -325,19 +344,19 @@ static inline struct fv_sync fv_none(void)
     return sync;
 }
 
-static inline struct fv_sync fv_emit(uint8_t slot)
+static inline struct fv_sync fv_emit(uint32_t slot)
 {
     struct fv_sync sync = {FV_FLAG_EMIT, slot, 0};
     return sync;
 }
 
-static inline struct fv_sync fv_wait(uint8_t slot, uint32_t target)
+static inline struct fv_sync fv_wait(uint32_t slot, uint32_t target)
 {
     struct fv_sync sync = {FV_FLAG_WAIT, slot, target};
     return sync;
 }
 
-static inline struct fv_sync fv_wait_then_emit(uint8_t slot, uint32_t target)
+static inline struct fv_sync fv_wait_then_emit(uint32_t slot, uint32_t target)
 {
     struct fv_sync sync = {FV_FLAG_WAIT | FV_FLAG_EMIT, slot, target};
     return sync;
@@ -351,48 +370,48 @@ static inline struct fv_sync fv_with_irq(struct fv_sync sync)
 }
 
 /* A command with no payload, whatever `sync` says of one. */
-static inline int fv_append_plain(struct fv_ring *ring, struct fv_sync sync, uint8_t opcode, uint8_t len,
+static inline int fv_append_plain(struct fv_ring *ring, struct fv_sync sync, uint32_t opcode, size_t len,
                                   uint32_t arg0, uint32_t arg1, uint32_t arg2)
 {
-    struct fv_command command = {opcode, (uint8_t)(sync.flags & ~FV_FLAG_PAYLOAD), sync.rdst, len, arg0, arg1,
-                                 arg2, sync.target, NULL};
+    struct fv_command command = {opcode, sync.flags & ~(uint32_t)FV_FLAG_PAYLOAD, sync.rdst, len, arg0, arg1, arg2,
+                                 sync.target, NULL};
     return fv_append(ring, &command);
-}
-
-/* A size: width in bits 15..0 and height in 31..16. */
-static inline uint32_t fv_size(uint32_t width, uint32_t height)
-{
-    return (width & 65535) | height << 16;
 }
 
 /* ---- the eight commands ----
- * Each appends to a ring and gives 1, or 0 if there is no room. Addresses count
- * from the start of the ring's window. */
+ * Each appends to a ring and gives 1; or 0 and appends nothing if there is no room,
+ * or a len, width, height or slot does not fit into its field. Addresses count from
+ * the start of the ring's window. */
 
 static inline int fv_write_mem(struct fv_ring *ring, struct fv_sync sync, uint32_t dst, const uint32_t *words,
-                               uint8_t len)
+                               size_t len)
 {
-    struct fv_command command = {FV_WRITE_MEM, (uint8_t)(sync.flags | FV_FLAG_PAYLOAD), sync.rdst, len, dst, 0, 0,
-                                 sync.target, words};
+    struct fv_command command = {FV_WRITE_MEM, sync.flags | FV_FLAG_PAYLOAD, sync.rdst, len, dst, 0, 0, sync.target,
+                                 words};
     return fv_append(ring, &command);
 }
 
-static inline int fv_read_mem(struct fv_ring *ring, struct fv_sync sync, uint32_t src, uint8_t len)
+static inline int fv_read_mem(struct fv_ring *ring, struct fv_sync sync, uint32_t src, size_t len)
 {
     return fv_append_plain(ring, sync, FV_READ_MEM, len, src, 0, 0);
 }
 
 /* Pixel (x, y) lies at dst + y * stride + 4 * x; the stride is the ring's frame's. */
-static inline int fv_fill_rect(struct fv_ring *ring, struct fv_sync sync, uint32_t dst, uint32_t size,
-                               uint32_t color)
+static inline int fv_fill_rect(struct fv_ring *ring, struct fv_sync sync, uint32_t dst, uint32_t width,
+                               uint32_t height, uint32_t color)
 {
-    return fv_append_plain(ring, sync, FV_FILL_RECT, 0, dst, size, color);
+    if ((width | height) > FV_SIDE_MOST)
+        return 0;
+    return fv_append_plain(ring, sync, FV_FILL_RECT, 0, dst, width | height << 16, color);
 }
 
 /* Row by row from the top, each row from the left; the stride is used for both sides. */
-static inline int fv_blit(struct fv_ring *ring, struct fv_sync sync, uint32_t dst, uint32_t src, uint32_t size)
+static inline int fv_blit(struct fv_ring *ring, struct fv_sync sync, uint32_t dst, uint32_t src, uint32_t width,
+                          uint32_t height)
 {
-    return fv_append_plain(ring, sync, FV_BLIT, 0, dst, src, size);
+    if ((width | height) > FV_SIDE_MOST)
+        return 0;
+    return fv_append_plain(ring, sync, FV_BLIT, 0, dst, src, width | height << 16);
 }
 
 static inline int fv_dispatch_1d(struct fv_ring *ring, struct fv_sync sync, uint32_t groups, uint32_t threads,
@@ -407,7 +426,7 @@ static inline int fv_barrier(struct fv_ring *ring, struct fv_sync sync)
 }
 
 /* In rising order; each word is read when its turn comes. */
-static inline int fv_copy_buffer(struct fv_ring *ring, struct fv_sync sync, uint32_t dst, uint32_t src, uint8_t len)
+static inline int fv_copy_buffer(struct fv_ring *ring, struct fv_sync sync, uint32_t dst, uint32_t src, size_t len)
 {
     return fv_append_plain(ring, sync, FV_COPY_BUFFER, len, dst, src, 0);
 }

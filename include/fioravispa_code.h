@@ -6,7 +6,9 @@
  *     fv_b(FV_BNE, 5, 0, -8)        BNE s5, s0 to two words before this one
  *
  * A thread starts with s1 group, s2 thread in the group, s3 threads in a group,
- * s4 groups, all other registers 0; s0 always reads 0. FV_WFI ends it. */
+ * s4 groups, all other registers 0; s0 always reads 0. FV_WFI ends it.
+ *
+ * Nothing is checked here: a register is 0 to 31, 12 bits hold -2,048 to 2,047. */
 #ifndef FIORAVISPA_CODE_H
 #define FIORAVISPA_CODE_H
 
@@ -39,10 +41,10 @@ enum { FV_I32 = 0, FV_I16 = 1, FV_I8 = 2 };
 #define FV_VAND(lane) FV_BITS(0x2F, lane, 10 << 1)
 #define FV_VOR(lane) FV_BITS(0x2F, lane, 11 << 1)
 #define FV_VMUL(lane) FV_BITS(0x2F, lane, 12 << 1)
-#define FV_VBCAST FV_BITS(0x10, 0, 0)  /* vd, scalar rs1; rs2 0 */
-#define FV_VEXTR FV_BITS(0x10, 2, 0)   /* scalar rd, v1; rs2 0 */
-#define FV_VLD FV_BITS(0x11, 0, 0)     /* vd, scalar rs1; rs2 0 */
-#define FV_VST FV_BITS(0x12, 0, 0)     /* rd 0; scalar rs1, v2 */
+#define FV_VBCAST FV_BITS(0x10, 0, 0)  /* vector rd, scalar rs1; rs2 0 */
+#define FV_VEXTR FV_BITS(0x10, 2, 0)   /* scalar rd, vector rs1; rs2 0 */
+#define FV_VLD FV_BITS(0x11, 0, 0)     /* vector rd, scalar rs1; rs2 0 */
+#define FV_VST FV_BITS(0x12, 0, 0)     /* rd 0; scalar rs1, vector rs2 */
 
 static inline uint32_t fv_r(uint32_t bits, uint32_t rd, uint32_t rs1, uint32_t rs2)
 {

@@ -103,16 +103,16 @@ static void queue_painting(struct fv_ring *a)
     for (size_t i = 0; i < 8; i++)
         line[i] = WHITE;
     queued(fv_set_fb(a, fv_none(), 0, STRIDE, 0));
-    queued(fv_fill_rect(a, fv_none(), 0, fv_size(WIDTH, HEIGHT), NAVY));
-    queued(fv_fill_rect(a, fv_none(), pixel_at(TILE_X, TILE_Y), fv_size(TILE, TILE), RED));
-    queued(fv_fill_rect(a, fv_none(), pixel_at(TILE_X + 2, TILE_Y + 2), fv_size(6, 6), YELLOW));
+    queued(fv_fill_rect(a, fv_none(), 0, WIDTH, HEIGHT, NAVY));
+    queued(fv_fill_rect(a, fv_none(), pixel_at(TILE_X, TILE_Y), TILE, TILE, RED));
+    queued(fv_fill_rect(a, fv_none(), pixel_at(TILE_X + 2, TILE_Y + 2), 6, 6, YELLOW));
     queued(fv_write_mem(a, fv_none(), pixel_at(TILE_X + 6, TILE_Y + 12), line, 8));
 }
 
 static void queue_copies(struct fv_ring *b)
 {
     queued(fv_set_fb(b, fv_wait(PAINTED, 1), 0, STRIDE, 0));
-    queued(fv_blit(b, fv_none(), pixel_at(COPY_X, TILE_Y), pixel_at(TILE_X, TILE_Y), fv_size(TILE, TILE)));
+    queued(fv_blit(b, fv_none(), pixel_at(COPY_X, TILE_Y), pixel_at(TILE_X, TILE_Y), TILE, TILE));
     queued(fv_copy_buffer(b, fv_emit(COPIED), pixel_at(0, LINE_TO), pixel_at(0, LINE_FROM), WIDTH));
     queued(fv_read_mem(b, fv_with_irq(fv_wait(SHADED, 1)), pixel_at(0, SHADE_Y), WIDTH));
 }
