@@ -55,6 +55,7 @@ pub record Leaves (i m p t : List ℕ) (r : ℕ) (c : Called) : Type 0 where
   pub report : t ≡ c .report
   pub answer : r ≡ c .answer
 
+-- a command was taken
 unfoldable pub isServed : Answer → Bool
 isServed (RefusedFor why) = false
 isServed Idle = false

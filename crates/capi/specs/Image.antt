@@ -27,15 +27,17 @@ unfoldable pub wordsIn : List ℕ → ℕ → ℕ → List ℕ
 wordsIn bytes k zero = []
 wordsIn bytes k (suc n) = wordsIn bytes k n ++ (wordIn bytes (k + n) ∷ [])
 
--- a frame's own words: 1 if it is held, its base, and its format; each 0 of no frame
+-- 1 of a held frame; 0 of no frame
 unfoldable pub heldOf : Frame → ℕ
 heldOf Unset = 0
 heldOf (Held base stride format) = 1
 
+-- a frame's base; 0 of no frame
 unfoldable pub baseOf : Frame → ℕ
 baseOf Unset = 0
 baseOf (Held base stride format) = base
 
+-- a frame's format; 0 of no frame
 unfoldable pub formatOf : Frame → ℕ
 formatOf Unset = 0
 formatOf (Held base stride format) = format
