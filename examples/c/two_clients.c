@@ -167,7 +167,7 @@ static uint32_t final_color(uint32_t x, uint32_t y)
     return painted_color(x, y);
 }
 
-static void check_frame(uint32_t color(uint32_t, uint32_t), const char *when)
+static void check_frame(uint32_t color(uint32_t, uint32_t), const char *name)
 {
     unsigned wrong = 0;
 
@@ -177,7 +177,7 @@ static void check_frame(uint32_t color(uint32_t, uint32_t), const char *when)
             printf("pixel (%u, %u) is %06X, not %06X\n", x, y, got, want);
     }
     if (wrong) {
-        printf("%u pixels are wrong %s\n", wrong, when);
+        printf("%u pixels of %s are wrong\n", wrong, name);
         exit(1);
     }
 }
@@ -208,12 +208,12 @@ int main(int count, char **words)
     queue_copies(&lent.rings[B]);
     run_to_idle(); /* B waits: A has not said that it is done */
     save(words[1], "before.ppm");
-    check_frame(painted_color, "before");
+    check_frame(painted_color, "before.ppm");
 
     queue_shading(&lent.rings[A]);
     run_to_idle();
     save(words[1], "after.ppm");
-    check_frame(final_color, "after");
+    check_frame(final_color, "after.ppm");
     check_read_back();
     puts("the frame is right");
     return 0;
