@@ -241,7 +241,10 @@ static inline struct fv_report fv_read_report(const uint8_t *bytes)
     return report;
 }
 
-/* ---- the kernel pack: count K, K pairs (first word, words), count N, N code words ---- */
+/* ---- the kernel pack ----
+ * Count K, K pairs (first word, words), count N, N code words, nothing after. It is
+ * faulty with more than FV_KERNELS_MOST or FV_CODE_MOST, or with a kernel that has no
+ * word or does not lie in the code. */
 
 struct fv_kernel {
     const uint32_t *words;
@@ -256,8 +259,8 @@ static inline size_t fv_pack_bytes(const struct fv_kernel *kernels, uint32_t cou
     return bytes;
 }
 
-/* Puts the kernels one after another; kernel i has number i. Gives the pack's
- * length, or 0 and puts nothing if there is no room. */
+/* Puts the kernels one after another, each with its place in the row as its number.
+ * Gives the pack's length, or 0 and puts nothing if there is no room. */
 static inline size_t fv_put_pack(uint8_t *bytes, size_t room, const struct fv_kernel *kernels, uint32_t count)
 {
     uint8_t *at = bytes;
