@@ -3,7 +3,8 @@
  *
  * The device keeps nothing between calls: its state is an image of bytes that
  * the caller keeps. Everything else is lent for one call. All numbers in bytes
- * are little endian. Link with target/staticlib/libcapi.a (x86-64). */
+ * are little endian. Link with target/staticlib/libcapi.a, which bin/archive builds
+ * (x86-64). */
 #ifndef FIORAVISPA_H
 #define FIORAVISPA_H
 
