@@ -1,3 +1,4 @@
 pub mod Effects
 pub mod Stops
 pub mod OperandLaws
+pub mod OperandsCount

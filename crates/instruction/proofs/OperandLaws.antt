@@ -1,19 +1,38 @@
--- The tables of operands say what counts: what is not read does not matter, and an instruction puts a scalar or ends the thread as they say.
+-- What the tables of operands say: a scalar that is not read does not matter; a scalar is put where `writes` says so, unless a load stops,
+-- and nowhere else; the thread ends exactly where `ends` says so. That a scalar that is read counts is in `OperandsCount`.
 -- Assumes nothing.
 use mathlib.Core.Path.{_≡_, refl}
 use mathlib.Core.Bool.{true, false}
 use mathlib.Core.List.{List}
 use mathlib.Core.Logic.{_↔_}
 use Prim.Native.Nat.{ℕ}
+use native.Mathlib.Omega.{arith}
 use Rattle.words.specs.Arithmetic.{sum}
 use Rattle.memory.specs.Access.{loadOf}
 use Rattle.memory.specs.Quad.{loadQuadOf}
 use Rattle.instruction.specs.declared.list.Op.{Op}
 use Rattle.instruction.specs.declared.list.Op.the-variants.{Alu, Unary, AluImm, Lui, Branch, Load, Store, Membar, Wfi, Vector, Vbcast, Vextr, Vld, Vst, Unlisted}
-use Rattle.instruction.specs.declared.effect.Effect.the-variants.{Put, End}
+use Rattle.instruction.specs.declared.effect.Stop.the-variants.{OutsideTheWindow}
+use Rattle.instruction.specs.declared.effect.Effect.{Effect}
+use Rattle.instruction.specs.declared.effect.Effect.the-variants.{Put, PutQuad, Store as StoreAt, StoreQuad, Go, Next, End, Stop}
 use Rattle.instruction.specs.Effect.{effectOf}
 use Rattle.instruction.specs.Operands.{reads1, reads2, writes, ends}
 use Rattle.instruction.proofs.Effects.{of-load, of-quad-load, of-branch}
+
+-- a scalar is put, or the thread is stopped for an access outside the window
+abbrev pub PutOrOutside : Effect → Type 0
+PutOrOutside (Put x) = Unit {0}
+PutOrOutside (PutQuad vd q) = ⊥
+PutOrOutside (StoreAt width a x) = ⊥
+PutOrOutside (StoreQuad a q) = ⊥
+PutOrOutside (Go offset) = ⊥
+PutOrOutside Next = ⊥
+PutOrOutside End = ⊥
+PutOrOutside (Stop why) = why ≡ OutsideTheWindow
+
+-- a table does not say both
+pub said-no : false ≡ true → ⊥
+said-no e = let z : _≡_ {A = ℕ} 0 1 = cc in omega arith
 
 module _ (vectors window : List ℕ) where
   -- where rs1 is not read its value does not matter
@@ -72,6 +91,25 @@ module _ (vectors window : List ℕ) where
   puts-as-written (Vld vd) x y z e = of-quad-load (λ f. f ≡ Put z → false ≡ true) vd (loadQuadOf window x) (λ q p. cc) (λ p. cc) e
   puts-as-written (Vst v2) x y z e = cc
   puts-as-written Unlisted x y z e = cc
+
+  -- where the table says so a scalar is put, unless a load stops
+  pub written-is-put : (op : Op) (x y : ℕ) → writes op ≡ true → PutOrOutside (effectOf op x y vectors window)
+  unfolding writes effectOf
+  written-is-put (Alu o) x y e = tt
+  written-is-put (Unary o) x y e = tt
+  written-is-put (AluImm o imm) x y e = tt
+  written-is-put (Lui imm) x y e = tt
+  written-is-put (Branch c offset) x y e = absurd (said-no e)
+  written-is-put (Load width imm) x y e = of-load PutOrOutside (loadOf window width (sum 32 x imm)) (λ v. tt) refl
+  written-is-put (Store width imm) x y e = absurd (said-no e)
+  written-is-put Membar x y e = absurd (said-no e)
+  written-is-put Wfi x y e = absurd (said-no e)
+  written-is-put (Vector op ty vd v1 v2) x y e = absurd (said-no e)
+  written-is-put (Vbcast vd) x y e = absurd (said-no e)
+  written-is-put (Vextr v1) x y e = tt
+  written-is-put (Vld vd) x y e = absurd (said-no e)
+  written-is-put (Vst v2) x y e = absurd (said-no e)
+  written-is-put Unlisted x y e = absurd (said-no e)
 
   -- the thread ends exactly where the table says so
   pub ends-as-said : (op : Op) (x y : ℕ) → (effectOf op x y vectors window ≡ End) ↔ (ends op ≡ true)
