@@ -4,6 +4,7 @@ use mathlib.Core.Path.{_≡_, refl}
 use Prim.Native.Nat.{ℕ}
 use lib.ListN.{length}
 use borrow.Author.Tests.{eq-eqb}
+use Rattle.kernel.specs.Run.{stepLimit}
 use Rattle.command.specs.Choice.{either}
 use Rattle.device.specs.declared.state.Device.{Device}
 use Rattle.device.specs.declared.refusal.Verdict.{Verdict}
@@ -40,4 +41,4 @@ module _ (limit : ℕ) (d : Device) (call : Call) where
 pub turn-follows : TurnFollows
 unfolding turnCall calledOf followed either
 turn-follows d report call formed six =
-    rw (eq-eqb (length (encode d)) 372 (encode-length d formed), eq-eqb (length report) 24 six, decode-encode d formed, turn-kept 4096 d call)
+    rw (eq-eqb (length (encode d)) 372 (encode-length d formed), eq-eqb (length report) 24 six, decode-encode d formed, turn-kept stepLimit d call)

@@ -6,6 +6,7 @@ use mathlib.Core.List.{List}
 use lib.Dec.{eqb}
 use lib.ListN.{length}
 use Rattle.command.specs.Choice.{either}
+use Rattle.kernel.specs.Run.{stepLimit}
 use Rattle.device.specs.declared.state.Device.{Device}
 use Rattle.device.specs.declared.fresh.Fresh.{Fresh}
 use Rattle.device.specs.declared.turn.Answer.{Answer}
@@ -85,6 +86,6 @@ unfoldable pub turnCall : List ℕ → List ℕ → Call → Called
 turnCall image report call =
     either (eqb (length image) 372)
     (either (eqb (length report) 24)
-    (calledOf image (turnOf 4096 (decode image) call))
+    (calledOf image (turnOf stepLimit (decode image) call))
     (untouched image report call 202))
     (untouched image report call 201)

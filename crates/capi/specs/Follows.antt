@@ -3,6 +3,7 @@ use Prim.Native.Nat.{ℕ}
 use mathlib.Core.Path.{_≡_}
 use mathlib.Core.List.{List}
 use lib.ListN.{length}
+use Rattle.kernel.specs.Run.{stepLimit}
 use Rattle.device.specs.declared.state.Device.{Device}
 use Rattle.device.specs.Turn.{Call, After, turnOf}
 use Rattle.capi.specs.Image.{encode}
@@ -22,4 +23,4 @@ followed a = record {
 
 -- served or not, a call over the image of a device leaves the image of the device that its turn leaves
 abbrev pub TurnFollows : Type 0
-TurnFollows = (d : Device) (report : List ℕ) (call : Call) → Formed d → length report ≡ 24 → turnCall (encode d) report call ≡ followed (turnOf 4096 d call)
+TurnFollows = (d : Device) (report : List ℕ) (call : Call) → Formed d → length report ≡ 24 → turnCall (encode d) report call ≡ followed (turnOf stepLimit d call)

@@ -14,6 +14,7 @@ use Rattle.instruction.specs.Vectors.{quadOf, broadcast}
 use Rattle.kernel.specs.declared.thread.Thread.{Thread}
 use Rattle.kernel.specs.Thread.{writtenVector}
 use Rattle.kernel.specs.Dispatch.{Dispatched, dispatchOf}
+use Rattle.kernel.specs.Run.{stepLimit}
 use Rattle.kernel.specs.Examples.{freshThread, afterWord, scalar, packOf}
 use Rattle.command.specs.declared.frame.Frame.the-variants.{Held}
 use Rattle.command.specs.Outcome.{outcomeNumber}
@@ -94,20 +95,20 @@ emitTo s = header 0x22 2 s 0 0 0 0
 -- the rings that the first turns of calls over unchanging rings serve
 abbrev pub first4 : Call → (ℕ × ℕ × ℕ × ℕ) → Type 0
 first4 call order =
-    let t1 = turnOf 4096 (framed 64 1) call .turned in
-    let t2 = turnOf 4096 (t1 .device) call .turned in
-    let t3 = turnOf 4096 (t2 .device) call .turned in
-    let t4 = turnOf 4096 (t3 .device) call .turned in
+    let t1 = turnOf stepLimit (framed 64 1) call .turned in
+    let t2 = turnOf stepLimit (t1 .device) call .turned in
+    let t3 = turnOf stepLimit (t2 .device) call .turned in
+    let t4 = turnOf stepLimit (t3 .device) call .turned in
     (ringNamed (t1 .answer), ringNamed (t2 .answer), ringNamed (t3 .answer), ringNamed (t4 .answer)) ≡ order
 
 pub record Table : Type 0 where
   -- window 64, stride 16, fill at 4, 2 by 3: words at 4, 8, 20, 24, 36, 40
-  pub p1 : (valuesOf (turnOf 4096 (framed 64 0) (fillAt4 64 2 3) .turned .answer) ≡ outcomeOn0 0)
-      × (turnOf 4096 (framed 64 0) (fillAt4 64 2 3) .memory ≡ colored (4 ∷ 8 ∷ 20 ∷ 24 ∷ 36 ∷ 40 ∷ []) 64)
+  pub p1 : (valuesOf (turnOf stepLimit (framed 64 0) (fillAt4 64 2 3) .turned .answer) ≡ outcomeOn0 0)
+      × (turnOf stepLimit (framed 64 0) (fillAt4 64 2 3) .memory ≡ colored (4 ∷ 8 ∷ 20 ∷ 24 ∷ 36 ∷ 40 ∷ []) 64)
   -- window 40: 8 (the end is 44)
-  pub p2 : valuesOf (turnOf 4096 (framed 40 0) (fillAt4 40 2 3) .turned .answer) ≡ outcomeOn0 8
+  pub p2 : valuesOf (turnOf stepLimit (framed 40 0) (fillAt4 40 2 3) .turned .answer) ≡ outcomeOn0 8
   -- width 5: 7
-  pub p3 : valuesOf (turnOf 4096 (framed 64 0) (fillAt4 64 5 3) .turned .answer) ≡ outcomeOn0 7
+  pub p3 : valuesOf (turnOf stepLimit (framed 64 0) (fillAt4 64 5 3) .turned .answer) ≡ outcomeOn0 7
   -- FFF00297 (ADDI s5, s0, -1): 4,294,967,295
   pub p4 : scalar 5 (afterWord 0xFFF00297 freshThread) ≡ 4294967295
   -- then 0052830B (ADD s6, s5, s5): 4,294,967,294
@@ -118,16 +119,16 @@ pub record Table : Type 0 where
   pub p7 : scalar 6 (afterWord 0x0600030B freshThread) ≡ 32
   -- FE502E0D (SW at -4 from s0): 13, in any dispatch and as a whole turn
   pub p8 : ((groups threads : ℕ) (window : List ℕ) → 1 ≤ groups → 1 ≤ threads → length window < 2 ^ 32
-      → EndsWith 13 window (dispatchOf 4096 (packOf 0xFE502E0D) 0 groups threads window))
-      × (valuesOf (turnOf 4096 (framed 64 0) (oneThread 0xFE502E0D) .turned .answer) ≡ outcomeOn0 13)
+      → EndsWith 13 window (dispatchOf stepLimit (packOf 0xFE502E0D) 0 groups threads window))
+      × (valuesOf (turnOf stepLimit (framed 64 0) (oneThread 0xFE502E0D) .turned .answer) ≡ outcomeOn0 13)
   -- 0000000E branches to itself: 14
   pub p9 : ((groups threads : ℕ) (window : List ℕ) → 1 ≤ groups → 1 ≤ threads
-      → EndsWith 14 window (dispatchOf 4096 (packOf 0x0000000E) 0 groups threads window))
-      × (valuesOf (turnOf 4096 (framed 64 0) (oneThread 0x0000000E) .turned .answer) ≡ outcomeOn0 14)
+      → EndsWith 14 window (dispatchOf stepLimit (packOf 0x0000000E) 0 groups threads window))
+      × (valuesOf (turnOf stepLimit (framed 64 0) (oneThread 0x0000000E) .turned .answer) ≡ outcomeOn0 14)
   -- VADD.I8 of 010000FF and 01000001: 02000000; as I16: 02000100 (0020A1AF and 002091AF, v1 and v2 to v3)
   pub p10 : (vector 3 (afterWord 0x0020A1AF (holding 0x010000FF 0x01000001)) ≡ broadcast 0x02000000)
       × (vector 3 (afterWord 0x002091AF (holding 0x010000FF 0x01000001)) ≡ broadcast 0x02000100)
   -- marker 1, all ready: order 1, 2, 3, 0
   pub p11 : first4 (lent 64 barrier barrier barrier barrier) (1, 2, 3, 0)
   -- two rings, each waiting for the other's next emit: idle at once
-  pub p12 : turnOf 4096 (framed 64 0) (lent 64 (waitFor 0 ++ emitTo 1) (waitFor 1 ++ emitTo 0) [] []) .turned .answer ≡ Idle
+  pub p12 : turnOf stepLimit (framed 64 0) (lent 64 (waitFor 0 ++ emitTo 1) (waitFor 1 ++ emitTo 0) [] []) .turned .answer ≡ Idle

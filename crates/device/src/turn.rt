@@ -2,6 +2,7 @@
 ghost use mathlib.Core.Path.{_≡_};
 ghost use Prim.Native.Nat.{_+_, _^_, _<_};
 ghost use lib.ListN.{length};
+ghost use Rattle.kernel.specs.Run.{stepLimit};
 ghost use Rattle.device.specs.State.{ringOf, slotOf};
 ghost use Rattle.device.specs.Turn.{emitted, fenceOf, emitTo, ringAfter, deviceAfter, reportOf, finished, Shows, Servable, servedOf, callOf, turnOf};
 ghost use Rattle.device.specs.Ready.{bytesOfRing};
@@ -124,7 +125,7 @@ fn finish(d: Device, q: u32, command: Command, done: Performed) -> Turned
 // Ring q, whose bytes are `ring`, is served: its window is lent to its command.
 fn serve(d: Device, q: u32, mem: &mut [u8], ring: &[u8], pack: &[u8], pipe: &mut [u8]) -> Turned
     requires { ⌜ Servable d q (length (now mem)) (now ring) (length (now pipe)) ⌝ }
-    ensures { λ r. ⌜ Shows r (now (mem .exit)) (now (pipe .exit)) (servedOf 4096 d q (now (ring .entry)) (now (mem .entry)) (now (pack .entry)) (now (pipe .entry))) ⌝ }
+    ensures { λ r. ⌜ Shows r (now (mem .exit)) (now (pipe .exit)) (servedOf stepLimit d q (now (ring .entry)) (now (mem .entry)) (now (pack .entry)) (now (pipe .entry))) ⌝ }
 {
     let at = d.ring(q);
     let command = command_at(ring, at.cursor as usize);
@@ -159,7 +160,7 @@ fn serve_picked<'a>(
     pipe: &mut [u8],
 ) -> Turned
     requires { ⌜ Servable d q (length (now mem)) (bytesOfRing q (now r0) (now r1) (now r2) (now r3)) (length (now pipe)) ⌝ }
-    ensures { λ r. ⌜ Shows r (now (mem .exit)) (now (pipe .exit)) (servedOf 4096 d q (bytesOfRing q (now (r0 .entry)) (now (r1 .entry)) (now (r2 .entry)) (now (r3 .entry))) (now (mem .entry)) (now (pack .entry)) (now (pipe .entry))) ⌝ }
+    ensures { λ r. ⌜ Shows r (now (mem .exit)) (now (pipe .exit)) (servedOf stepLimit d q (bytesOfRing q (now (r0 .entry)) (now (r1 .entry)) (now (r2 .entry)) (now (r3 .entry))) (now (mem .entry)) (now (pack .entry)) (now (pipe .entry))) ⌝ }
 {
     let ring = bytes_of_ring(q, r0, r1, r2, r3);
     serve(d, q, mem, ring, pack, pipe)
@@ -176,7 +177,7 @@ pub fn turn<'a>(
     pack: &[u8],
     pipe: &mut [u8],
 ) -> Turned
-    ensures { λ r. ⌜ Shows r (now (mem .exit)) (now (pipe .exit)) (turnOf 4096 d (callOf (now (mem .entry)) (now (r0 .entry)) (now (r1 .entry)) (now (r2 .entry)) (now (r3 .entry)) (now (pack .entry)) (now (pipe .entry)))) ⌝ }
+    ensures { λ r. ⌜ Shows r (now (mem .exit)) (now (pipe .exit)) (turnOf stepLimit d (callOf (now (mem .entry)) (now (r0 .entry)) (now (r1 .entry)) (now (r2 .entry)) (now (r3 .entry)) (now (pack .entry)) (now (pipe .entry)))) ⌝ }
 {
     let verdict = judge(
         d,

@@ -7,6 +7,7 @@ use native.Mathlib.Omega.{arith}
 use lib.ListN.{length, take, drop}
 use Rattle.job.specs.Put.{Spelled}
 use Rattle.job.specs.Line.{idleLine, refusedLine}
+use Rattle.kernel.specs.Run.{stepLimit}
 use Rattle.device.specs.declared.state.Device.{Device}
 use Rattle.device.specs.declared.refusal.Refusal.{Refusal}
 use Rattle.device.specs.declared.turn.Answer.{Answer}
@@ -61,8 +62,8 @@ module _ {d₀ d : Device} {call₀ call : Call} {memory₀ turns n : ℕ} {text
   ended last a short same room =
       whole-spelled (last-appended (rw last at (p .lines)) a) (next-rest text₀ a (p .rest)) (omega (arith, line-fits room))
 
-  module _ {r : Turned} {memory pipe : List ℕ} (shows : Shows r memory pipe (turnOf 4096 d call)) where
-    same-answer : {a : Answer} → r .answer ≡ a → turnOf 4096 d call .turned .answer ≡ a
+  module _ {r : Turned} {memory pipe : List ℕ} (shows : Shows r memory pipe (turnOf stepLimit d call)) where
+    same-answer : {a : Answer} → r .answer ≡ a → turnOf stepLimit d call .turned .answer ≡ a
     same-answer e = sym (ap (λ x. x .answer) (shows .answer)) ∙ e
 
     pub ends-idle : r .answer ≡ Idle → {lent : List ℕ} {k : ℕ} → Appended (idleLine turns) n text lent k → k ≤ n + 64
@@ -76,7 +77,7 @@ module _ {d₀ d : Device} {call₀ call : Call} {memory₀ turns n : ℕ} {text
     module _ (report : Report) (e : r .answer ≡ Served report) where
       -- a served turn leaves at least 16 bytes fewer
       pub falls : bytesLeft (r .device) call + 16 ≤ bytesLeft d call
-      falls = rw (shows .answer) (served-takes 4096 d call (p .shaped) report (same-answer e))
+      falls = rw (shows .answer) (served-takes stepLimit d call (p .shaped) report (same-answer e))
 
       pub goes-on : {lent : List ℕ} {k : ℕ} → Appended (servedLine (turns + 1) report) n text lent k → k ≤ n + 64 → length lent ≡ length text
           → length memory ≡ length (call .memory) → length pipe ≡ length (call .pipe)
@@ -88,7 +89,7 @@ module _ {d₀ d : Device} {call₀ call : Call} {memory₀ turns n : ℕ} {text
             pipe = same-pipe ∙ p .pipe;
             text = same ∙ p .text;
             rest = next-rest text₀ a (p .rest);
-            shaped = rw (shows .answer) (turn-shaped 4096 d call (p .shaped));
+            shaped = rw (shows .answer) (turn-shaped stepLimit d call (p .shaped));
             left = omega (arith, falls, p .left);
             written = omega (arith, p .written);
             lines = next-appended _ (p .lines ∙ ap (λ (l : List ℕ). take n text ++ l) next) a;

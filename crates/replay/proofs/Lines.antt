@@ -5,6 +5,7 @@ use mathlib.Core.List.{List, _++_}
 use Prim.Native.Nat.{ℕ, zero, suc, _+_, _<_}
 use native.Mathlib.Omega.{arith}
 use Rattle.job.specs.Line.{idleLine, refusedLine}
+use Rattle.kernel.specs.Run.{stepLimit}
 use Rattle.device.specs.declared.state.Device.{Device}
 use Rattle.device.specs.declared.refusal.Refusal.{Refusal}
 use Rattle.device.specs.declared.turn.Answer.{Answer}
@@ -23,15 +24,15 @@ unfolding linesFrom linesOf bytesLeft
 same-lines zero g turns d call s hf hg = absurd (omega arith)
 same-lines (suc f) zero turns d call s hf hg = absurd (omega arith)
 same-lines (suc f) (suc g) turns d call s hf hg =
-    go (turnOf 4096 d call .turned .answer) (λ report e.
-    let falls = served-takes 4096 d call s report e in
-    same-lines f g (turns + 1) (turnOf 4096 d call .turned .device) (nextCall call (turnOf 4096 d call)) (turn-shaped 4096 d call s) (omega (arith, falls)) (omega (arith, falls)))
+    go (turnOf stepLimit d call .turned .answer) (λ report e.
+    let falls = served-takes stepLimit d call s report e in
+    same-lines f g (turns + 1) (turnOf stepLimit d call .turned .device) (nextCall call (turnOf stepLimit d call)) (turn-shaped stepLimit d call s) (omega (arith, falls)) (omega (arith, falls)))
     refl
   where
     rest : ℕ → List ℕ
-    rest n = linesFrom n (turns + 1) (turnOf 4096 d call .turned .device) (nextCall call (turnOf 4096 d call))
+    rest n = linesFrom n (turns + 1) (turnOf stepLimit d call .turned .device) (nextCall call (turnOf stepLimit d call))
 
-    go : (a : Answer) → ((report : Report) → turnOf 4096 d call .turned .answer ≡ Served report → rest f ≡ rest g) → turnOf 4096 d call .turned .answer ≡ a → linesOf turns a (rest f) ≡ linesOf turns a (rest g)
+    go : (a : Answer) → ((report : Report) → turnOf stepLimit d call .turned .answer ≡ Served report → rest f ≡ rest g) → turnOf stepLimit d call .turned .answer ≡ a → linesOf turns a (rest f) ≡ linesOf turns a (rest g)
     go (Served report) more e = rw (more report e)
     go Idle more e = refl
     go (Refused why) more e = refl
@@ -41,17 +42,17 @@ unfolding allLines
 enough-turns most turns d call s h = same-lines most (suc (bytesLeft d call)) turns d call s h (omega arith)
 
 module _ (turns : ℕ) (d : Device) (call : Call) (s : Shaped d) where
-  pub served-next : (report : Report) → turnOf 4096 d call .turned .answer ≡ Served report
-      → allLines turns d call ≡ servedLine (turns + 1) report ++ allLines (turns + 1) (turnOf 4096 d call .turned .device) (nextCall call (turnOf 4096 d call))
+  pub served-next : (report : Report) → turnOf stepLimit d call .turned .answer ≡ Served report
+      → allLines turns d call ≡ servedLine (turns + 1) report ++ allLines (turns + 1) (turnOf stepLimit d call .turned .device) (nextCall call (turnOf stepLimit d call))
   unfolding allLines linesFrom linesOf bytesLeft
   served-next report e =
-      let falls = served-takes 4096 d call s report e in
-      rw e (ap (λ (l : List ℕ). servedLine (turns + 1) report ++ l) (enough-turns (bytesLeft d call) (turns + 1) (turnOf 4096 d call .turned .device) (nextCall call (turnOf 4096 d call)) (turn-shaped 4096 d call s) (omega (arith, falls))))
+      let falls = served-takes stepLimit d call s report e in
+      rw e (ap (λ (l : List ℕ). servedLine (turns + 1) report ++ l) (enough-turns (bytesLeft d call) (turns + 1) (turnOf stepLimit d call .turned .device) (nextCall call (turnOf stepLimit d call)) (turn-shaped stepLimit d call s) (omega (arith, falls))))
 
-  pub idle-ends : turnOf 4096 d call .turned .answer ≡ Idle → allLines turns d call ≡ idleLine turns
+  pub idle-ends : turnOf stepLimit d call .turned .answer ≡ Idle → allLines turns d call ≡ idleLine turns
   unfolding allLines linesFrom linesOf
   idle-ends e = rw e
 
-  pub refused-ends : (why : Refusal) → turnOf 4096 d call .turned .answer ≡ Refused why → allLines turns d call ≡ refusedLine (refusalNumber why)
+  pub refused-ends : (why : Refusal) → turnOf stepLimit d call .turned .answer ≡ Refused why → allLines turns d call ≡ refusedLine (refusalNumber why)
   unfolding allLines linesFrom linesOf
   refused-ends why e = rw e

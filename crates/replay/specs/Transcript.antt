@@ -3,6 +3,7 @@ use Prim.Native.Nat.{ℕ, zero, suc, _+_, _<_}
 use mathlib.Core.Path.{_≡_}
 use mathlib.Core.List.{List, [], _++_}
 use lib.ListN.{length, replicate}
+use Rattle.kernel.specs.Run.{stepLimit}
 use Rattle.command.specs.Outcome.{outcomeNumber}
 use Rattle.device.specs.declared.state.Device.{Device}
 use Rattle.device.specs.declared.state.Window.{Window}
@@ -44,7 +45,7 @@ nextCall call after =
 unfoldable pub linesFrom : ℕ → ℕ → Device → Call → List ℕ
 linesFrom zero turns d call = []
 linesFrom (suc most) turns d call =
-    let after = turnOf 4096 d call in
+    let after = turnOf stepLimit d call in
     linesOf turns (after .turned .answer) (linesFrom most (turns + 1) (after .turned .device) (nextCall call after))
 
 -- the lines of all turns: each served turn takes bytes of a ring, so there are no more turns than one more than the bytes left
