@@ -4,3 +4,5 @@ pub mod Sizes
 pub mod Inverse
 pub mod Follows
 pub mod OneAnswer
+pub mod Fits
+pub mod Forms

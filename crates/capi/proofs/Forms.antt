@@ -1,0 +1,195 @@
+-- A fresh device is formed, and so is the device that a turn of a formed one leaves.
+-- Assumes nothing.
+use mathlib.Core.Path.{_≡_, refl}
+use mathlib.Core.Bool.{Bool, true, false}
+use mathlib.Core.List.{List, [], _∷_, _++_}
+use Prim.Native.Nat.{ℕ, _^_, _<_}
+use native.Mathlib.Omega.{arith}
+use lib.Dec.{eqb, lit<}
+use lib.ListN.{length, length-set}
+use borrow.Author.Tests.{eqb-true, eqb-false}
+use Rattle.memory.proofs.Places.{word-fits}
+use Rattle.command.specs.declared.header.Command.{Command}
+use Rattle.command.specs.declared.frame.Frame.{Frame}
+use Rattle.command.specs.declared.work.Performed.{Performed}
+use Rattle.command.specs.Choice.{either}
+use Rattle.command.specs.Frame.{strideOf}
+use Rattle.command.specs.Header.{commandAt}
+use Rattle.command.specs.Report.{emits}
+use Rattle.command.specs.Work.{Left, leaves, afterDispatch, heldBy}
+use Rattle.command.specs.Perform.{performedOf}
+use Rattle.command.proofs.Works.{work-has}
+use Rattle.command.proofs.Performs.{performed-has}
+use Rattle.device.specs.declared.state.Window.{Window}
+use Rattle.device.specs.declared.state.Ring.{Ring}
+use Rattle.device.specs.declared.state.Device.{Device}
+use Rattle.device.specs.declared.refusal.Verdict.{Verdict}
+use Rattle.device.specs.declared.refusal.Verdict.the-variants.{Sound, Refused}
+use Rattle.device.specs.declared.ready.Picked.{Picked}
+use Rattle.device.specs.declared.ready.Picked.the-variants.{Ring as RingOf, Nobody}
+use Rattle.device.specs.State.{emptyWindow, freshDevice, ringOf, withRing, withSlot, withMarker}
+use Rattle.device.specs.Refusal.{memoryFits}
+use Rattle.device.specs.Ready.{bytesOfRing, pickOf}
+use Rattle.device.specs.Fresh.{freshOf}
+use Rattle.device.specs.Turn.{Call, emitted, emitTo, unchanged, ringAfter, deviceAfter, finished, servedOf, pickedOf, judgedOf, verdictOn, turnOf}
+use Rattle.device.proofs.Seeks.{next-below}
+use Rattle.device.proofs.Verdicts.{each-of-four, servable}
+use Rattle.device.proofs.Wholes.{whole-inside}
+use Rattle.device.proofs.BytesLeft.{rings-after, served-ring, other-ring}
+use Rattle.capi.specs.Image.{heldOf, baseOf, formatOf, ringWords, ringsWords, wordsOf, windowAt}
+use Rattle.capi.specs.Inverse.{Formed}
+use Rattle.capi.specs.Follows.{OfBytes, RingsOfBytes, FreshForms, TurnForms}
+use Rattle.capi.proofs.Fits.{Fits, fits-none, fits-more, fits-both, fits-left, fits-right, fits-set, fits-zeros}
+
+-- what is below 2^32 in a frame, and in a ring
+record FrameFits (f : Frame) : Type 0 where
+  held : heldOf f < 2 ^ 32
+  base : baseOf f < 2 ^ 32
+  stride : strideOf f < 2 ^ 32
+  format : formatOf f < 2 ^ 32
+
+ring-fits : (r : Ring) → r .window .start < 2 ^ 32 → r .window .length < 2 ^ 32 → r .cursor < 2 ^ 32 → FrameFits (r .frame) → Fits (ringWords r)
+unfolding ringWords
+ring-fits r start long cursor frame =
+    fits-more start (fits-more long (fits-more cursor (fits-more (frame .held) (fits-more (frame .base) (fits-more (frame .stride) (fits-more (frame .format) fits-none))))))
+
+frame-in : (r : Ring) → Fits (ringWords r) → FrameFits (r .frame)
+unfolding ringWords
+frame-in r h = record { held = h .at 3; base = h .at 4; stride = h .at 5; format = h .at 6 }
+
+-- a device whose rings, slots and marker fit
+module _ (d : Device) where
+  formed : length (d .rings) ≡ 4 → length (d .slots) ≡ 64 → ((q : ℕ) → q < 4 → Fits (ringWords (ringOf d q))) → Fits (d .slots) → d .marker < 2 ^ 32
+      → Formed d
+  unfolding wordsOf ringsWords
+  formed four sixty-four rings slots marker = record {
+    four = four;
+    sixty-four = sixty-four;
+    fit = fits-both (ringsWords d ++ d .slots)
+        (fits-both (ringsWords d)
+        (fits-both (ringWords (ringOf d 0) ++ ringWords (ringOf d 1) ++ ringWords (ringOf d 2))
+        (fits-both (ringWords (ringOf d 0) ++ ringWords (ringOf d 1)) (fits-both (ringWords (ringOf d 0)) (rings 0 (lit< tt)) (rings 1 (lit< tt))) (rings 2 (lit< tt)))
+        (rings 3 (lit< tt)))
+        slots)
+        (fits-more marker fits-none) .at;
+  }
+
+  module _ (is : Formed d) where
+    before-marker : Fits (ringsWords d ++ d .slots)
+    unfolding wordsOf
+    before-marker = fits-left (ringsWords d ++ d .slots) (d .marker ∷ []) (record { at = is .fit })
+
+    slots-in : Fits (d .slots)
+    slots-in = fits-right (ringsWords d) before-marker
+
+    rings-in : (q : ℕ) → q < 4 → Fits (ringWords (ringOf d q))
+    unfolding ringsWords
+    rings-in =
+        let all = fits-left (ringsWords d) (d .slots) before-marker in
+        let three = fits-left (ringWords (ringOf d 0) ++ ringWords (ringOf d 1) ++ ringWords (ringOf d 2)) (ringWords (ringOf d 3)) all in
+        let two = fits-left (ringWords (ringOf d 0) ++ ringWords (ringOf d 1)) (ringWords (ringOf d 2)) three in
+        each-of-four (λ q. Fits (ringWords (ringOf d q)))
+        (fits-left (ringWords (ringOf d 0)) (ringWords (ringOf d 1)) two)
+        (fits-right (ringWords (ringOf d 0)) two)
+        (fits-right (ringWords (ringOf d 0) ++ ringWords (ringOf d 1)) three)
+        (fits-right (ringWords (ringOf d 0) ++ ringWords (ringOf d 1) ++ ringWords (ringOf d 2)) all)
+
+-- a command leaves its frame, or the one of its arguments
+module _ (ring : List ℕ) (bytes : OfBytes ring) (cursor slot : ℕ) (window : List ℕ) (frame : Frame) (pack pipe : List ℕ) (limit : ℕ) (h : FrameFits frame) where
+  abbrev c : Command
+  c = commandAt ring cursor
+
+  held-fits : FrameFits (heldBy c)
+  unfolding heldBy heldOf baseOf strideOf formatOf commandAt
+  held-fits = record { held = omega arith; base = word-fits ring _ bytes; stride = word-fits ring _ bytes; format = word-fits ring _ bytes }
+
+  abbrev Held : Left → Type 0
+  Held l = FrameFits (l .performed .frame)
+
+  frame-after : Held (performedOf c slot ring window frame pack pipe limit)
+  unfolding leaves afterDispatch
+  frame-after =
+      performed-has c slot ring window frame pack pipe limit Held
+      (λ fine. work-has c ring window frame pack pipe limit Held (λ e. h) (λ e. h) (λ e. h) (λ e. h) (λ e. h) (λ e. h) (λ e. held-fits) h)
+      (λ faulty. h)
+
+-- an emit leaves 64 numbers that fit
+emit-slots : (b : Bool) (d : Device) (n slot : ℕ) → length (d .slots) ≡ 64 → Fits (d .slots)
+    → (length (emitTo b d n slot .slots) ≡ 64) × Fits (emitTo b d n slot .slots)
+unfolding emitTo either withSlot
+emit-slots true d n slot long h = (simp length-set long, fits-set (d .slots) n (emitted slot) h (omega arith))
+emit-slots false d n slot long h = (long, h)
+
+-- so a served command leaves a formed device
+module _ (d : Device) (q : ℕ) (c : Command) (p : Performed) (is : Formed d) (four : q < 4) (cursor : ringAfter (ringOf d q) c (p .frame) .cursor < 2 ^ 32)
+    (frame : FrameFits (p .frame)) where
+  own-ring : Fits (ringWords (ringAfter (ringOf d q) c (p .frame)))
+  unfolding ringAfter ringWords
+  own-ring =
+      let old = rings-in d is q four in
+      ring-fits (ringAfter (ringOf d q) c (p .frame)) (old .at 0) (old .at 1) cursor frame
+
+  ring-after : (j : ℕ) → j < 4 → Fits (ringWords (ringOf (deviceAfter d q c p) j))
+  ring-after j h = go (eqb j q) refl
+    where
+      go : (b : Bool) → eqb j q ≡ b → Fits (ringWords (ringOf (deviceAfter d q c p) j))
+      go true e = rw (eqb-true j q e, served-ring d q c p (omega (arith, is .four))) own-ring
+      go false e = rw (other-ring d q c p j (eqb-false j q e)) (rings-in d is j h)
+
+  after-formed : Formed (deviceAfter d q c p)
+  unfolding deviceAfter withMarker withRing
+  after-formed =
+      let slots = emit-slots (emits c (p .outcome)) (withRing d q (ringAfter (ringOf d q) c (p .frame))) (c .rdst) _ (is .sixty-four) (slots-in d is) in
+      formed (deviceAfter d q c p) (rw (rings-after d q c p) (simp length-set (is .four))) (slots .0) ring-after (slots .1)
+      (omega (arith, next-below q four))
+
+module _ (limit : ℕ) (d : Device) (call : Call) (is : Formed d) (bytes : RingsOfBytes call) where
+  picked-formed : (p : Picked) → verdictOn d call ≡ Sound → pickOf d (call .ring0) (call .ring1) (call .ring2) (call .ring3) ≡ p
+      → Formed (pickedOf limit d call p .turned .device)
+  unfolding pickedOf servedOf finished unchanged verdictOn ringAfter
+  picked-formed Nobody sound e = is
+  picked-formed (RingOf q) sound e =
+      let ring = bytesOfRing q (call .ring0) (call .ring1) (call .ring2) (call .ring3) in
+      let s = servable d (length (call .memory)) (call .ring0) (call .ring1) (call .ring2) (call .ring3) (length (call .pipe)) (call .pack) sound q e in
+      after-formed d q _ _ is (s .number)
+      (omega (arith, whole-inside ring (ringOf d q .cursor) (s .whole), s .short))
+      (frame-after ring (bytes q) _ _ _ _ _ _ _ (frame-in (ringOf d q) (rings-in d is q (s .number))))
+
+  judged-formed : (v : Verdict) → verdictOn d call ≡ v → Formed (judgedOf limit d call v .turned .device)
+  unfolding judgedOf unchanged
+  judged-formed Sound e = picked-formed _ e refl
+  judged-formed (Refused why) e = is
+
+pub turn-forms : TurnForms
+unfolding turnOf
+turn-forms limit d call is bytes = judged-formed limit d call is bytes (verdictOn d call) refl
+
+-- a window whose two numbers fit
+abbrev WindowFits : Window → Type 0
+WindowFits w = (w .start < 2 ^ 32) × (w .length < 2 ^ 32)
+
+fresh-ring : (w : Window) → WindowFits w → Fits (ringWords (record { window = w; cursor = 0; frame = Frame.Unset }))
+unfolding heldOf baseOf strideOf formatOf
+fresh-ring w h = ring-fits _ (h .0) (h .1) (omega arith) (record { held = omega arith; base = omega arith; stride = omega arith; format = omega arith })
+
+fresh-formed : (w0 w1 w2 w3 : Window) → WindowFits w0 → WindowFits w1 → WindowFits w2 → WindowFits w3 → Formed (freshDevice w0 w1 w2 w3)
+unfolding freshDevice ringOf
+fresh-formed w0 w1 w2 w3 h0 h1 h2 h3 =
+    formed (freshDevice w0 w1 w2 w3) refl refl
+    (each-of-four (λ q. Fits (ringWords (ringOf (freshDevice w0 w1 w2 w3) q))) (fresh-ring w0 h0) (fresh-ring w1 h1) (fresh-ring w2 h2) (fresh-ring w3 h3))
+    (fits-zeros 64) (omega arith)
+
+pub fresh-forms : FreshForms
+unfolding freshOf either windowAt
+fresh-forms windows memory bytes = go (memoryFits memory (windowAt windows 0) (windowAt windows 2) (windowAt windows 4) (windowAt windows 6)) refl
+  where
+    at : (k : ℕ) → WindowFits (windowAt windows k)
+    at k = (word-fits windows _ bytes, word-fits windows _ bytes)
+
+    empty : WindowFits emptyWindow
+    empty = (omega arith, omega arith)
+
+    go : (b : Bool) → memoryFits memory (windowAt windows 0) (windowAt windows 2) (windowAt windows 4) (windowAt windows 6) ≡ b
+        → Formed (freshOf memory (windowAt windows 0) (windowAt windows 2) (windowAt windows 4) (windowAt windows 6) .device)
+    go true e = rw e (fresh-formed _ _ _ _ (at 0) (at 2) (at 4) (at 6))
+    go false e = rw e (fresh-formed _ _ _ _ empty empty empty empty)
