@@ -1,2 +1,3 @@
-pub mod Lent
 pub mod Piece
+pub mod Lent
+pub mod Answer

@@ -1,4 +1,8 @@
 // A recorded making of a fresh device.
+ghost use mathlib.Core.Path.{_≡_};
+ghost use Rattle.compare.specs.Answer.{freshRecorded};
+use crate::piece::Piece;
+use crate::piece::is_last;
 use crate::piece::is_same;
 use crate::piece::lay;
 use crate::piece::piece_after;
@@ -7,10 +11,21 @@ use crate::tally::Seen;
 use capi::calls::fresh_call;
 use memory::peek::peek_word;
 use memory::place::put_word;
+use words::choice::both;
 
 fn memory_length(bytes: &[u8]) -> usize {
     let high = peek_word(bytes, 4) as usize;
     4294967296 * high + peek_word(bytes, 0) as usize
+}
+
+// Whether a fresh device's image and its answer are what is recorded.
+fn is_recorded(body: &[u8], after: Piece, recorded: Piece, image: &[u8], answer: &[u8]) -> bool
+    ensures { λ r. ⌜ r ≡ freshRecorded (now (body .entry)) after recorded (now (image .entry)) (now (answer .entry)) ⌝ }
+{
+    both(
+        is_same(image, body, after),
+        both(is_same(answer, body, recorded), is_last(body, recorded)),
+    )
 }
 
 pub fn compare(body: &[u8]) -> Seen {
@@ -31,8 +46,5 @@ pub fn compare(body: &[u8]) -> Seen {
         0,
         fresh_call(&mut image, &pairs, memory_length(&bytes)),
     );
-    if !is_same(&image, body, after) {
-        return Seen::Fresh(false);
-    }
-    Seen::Fresh(is_same(&answer, body, recorded))
+    Seen::Fresh(is_recorded(body, after, recorded, &image, &answer))
 }

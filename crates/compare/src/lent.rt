@@ -1,7 +1,8 @@
 // The rings and the pack of a recorded turn, laid one after another.
 ghost use Prim.Native.Nat.{_≤_};
 ghost use lib.ListN.{length};
-ghost use Rattle.compare.specs.Lent.{InOrder};
+ghost use mathlib.Core.Path.{_≡_};
+ghost use Rattle.compare.specs.Lent.{InOrder, lentAfter, endsOf};
 use crate::piece::Piece;
 use crate::piece::lay;
 use crate::piece::piece_after;
@@ -23,7 +24,9 @@ pub struct Ends {
     pub pack: usize,
 }
 
-pub fn lent_after(body: &[u8], piece: Piece) -> Lent {
+pub fn lent_after(body: &[u8], piece: Piece) -> Lent
+    ensures { λ r. ⌜ r ≡ lentAfter (now (body .entry)) piece ⌝ }
+{
     let ring0 = piece_after(body, piece);
     let ring1 = piece_after(body, ring0);
     let ring2 = piece_after(body, ring1);
@@ -39,7 +42,7 @@ pub fn lent_after(body: &[u8], piece: Piece) -> Lent {
 }
 
 pub fn ends_of(lent: Lent) -> Ends
-    ensures { λ r. ⌜ InOrder r ⌝ }
+    ensures { λ r. ⌜ (r ≡ endsOf lent) × InOrder r ⌝ }
 {
     let ring0 = lent.ring0.length as usize;
     let ring1 = ring0 + lent.ring1.length as usize;

@@ -5,7 +5,7 @@ ghost use lib.ListN.{length, getD};
 ghost use Rattle.job.specs.Kernels.{allBelow};
 ghost use Rattle.job.specs.Parts.{bytesOf};
 ghost use Rattle.memory.specs.Transfer.{transferred};
-ghost use Rattle.compare.specs.Piece.{sameAs};
+ghost use Rattle.compare.specs.Piece.{pieceAt, pieceAfter, isPiece, isLast};
 use job::parts::Part;
 use job::parts::bytes_of;
 use memory::peek::peek_byte;
@@ -22,7 +22,9 @@ pub struct Piece {
 const MOST_BYTES: usize = 262144;
 
 // The piece at a place of a record's body. What is not there reads 0.
-pub fn piece_at(body: &[u8], at: usize) -> Piece {
+pub fn piece_at(body: &[u8], at: usize) -> Piece
+    ensures { λ r. ⌜ r ≡ pieceAt (now (body .entry)) at ⌝ }
+{
     if MOST_BYTES < at {
         return Piece {
             length: 0,
@@ -40,7 +42,9 @@ pub fn piece_at(body: &[u8], at: usize) -> Piece {
 }
 
 // The piece after this one.
-pub fn piece_after(body: &[u8], piece: Piece) -> Piece {
+pub fn piece_after(body: &[u8], piece: Piece) -> Piece
+    ensures { λ r. ⌜ r ≡ pieceAfter (now (body .entry)) piece ⌝ }
+{
     let stored = piece.stored;
     piece_at(body, stored.end)
 }
@@ -79,8 +83,16 @@ fn has_bytes(bytes: &[u8], stored: &[u8]) -> bool
 
 // Whether the bytes are those of the piece, all of them and no more.
 pub fn is_same(bytes: &[u8], body: &[u8], piece: Piece) -> bool
-    ensures { λ r. ⌜ r ≡ sameAs (now (bytes .entry)) (piece .length) (bytesOf (now (body .entry)) (piece .stored)) ⌝ }
+    ensures { λ r. ⌜ r ≡ isPiece (now (bytes .entry)) (now (body .entry)) piece ⌝ }
 {
     let is_long = bytes.len() == piece.length as usize;
     both(is_long, has_bytes(bytes, bytes_of(body, piece.stored)))
+}
+
+// Whether no byte follows the piece.
+pub fn is_last(body: &[u8], piece: Piece) -> bool
+    ensures { λ r. ⌜ r ≡ isLast (now (body .entry)) piece ⌝ }
+{
+    let stored = piece.stored;
+    stored.end == body.len()
 }

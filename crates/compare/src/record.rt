@@ -2,8 +2,16 @@
 ghost use Rattle.io.specs.Counts.{Counts};
 use memory::peek::peek_word;
 
-// Reads the next body to the front of `body` and gives its length; 0 at the end of the file. A body that is cut short
-// or too long for the room is handed on as one byte, which is no call's record.
+// The bytes that a count stands for, of which so many were read; 0 if it is cut short.
+fn body_size(count: &[u8], got: usize) -> usize {
+    if got < 4 {
+        return 0;
+    }
+    peek_word(count, 0) as usize
+}
+
+// Reads the next body to the front of `body` and gives its length; 0 at the end of the file. What is no record (a count
+// or a body cut short, a body that is empty or too long for the room) is handed on as one byte, which is no call's.
 pub fn next(fd: i32, body: &mut [u8]) -> usize
     ensures { λ r. ⌜ Counts r (now (body .exit)) ⌝ }
 {
@@ -12,7 +20,10 @@ pub fn next(fd: i32, body: &mut [u8]) -> usize
     if got == 0 {
         return 0;
     }
-    let n = peek_word(&count, 0) as usize;
+    let n = body_size(&count, got);
+    if n == 0 {
+        return io::count(1, body);
+    }
     if body.len() < n {
         return io::count(1, body);
     }

@@ -1,7 +1,9 @@
 // A recorded turn.
 ghost use Prim.Native.Nat.{_≤_};
 ghost use lib.ListN.{length};
+ghost use mathlib.Core.Path.{_≡_};
 ghost use Rattle.compare.specs.Lent.{InOrder};
+ghost use Rattle.compare.specs.Answer.{leftAfter, turnRecorded};
 use crate::lent::Ends;
 use crate::lent::ends_of;
 use crate::lent::lay_lent;
@@ -9,6 +11,7 @@ use crate::lent::lay_part;
 use crate::lent::lent_after;
 use crate::lent::part_of;
 use crate::piece::Piece;
+use crate::piece::is_last;
 use crate::piece::is_same;
 use crate::piece::lay;
 use crate::piece::piece_after;
@@ -26,7 +29,9 @@ struct Left {
     report: Piece,
 }
 
-fn left_after(body: &[u8], piece: Piece) -> Left {
+fn left_after(body: &[u8], piece: Piece) -> Left
+    ensures { λ r. ⌜ r ≡ leftAfter (now (body .entry)) piece ⌝ }
+{
     let image = piece_after(body, piece);
     let memory = piece_after(body, image);
     let pipe = piece_after(body, memory);
@@ -37,6 +42,33 @@ fn left_after(body: &[u8], piece: Piece) -> Left {
         pipe,
         report,
     }
+}
+
+// Whether a turn left and returned what is recorded.
+fn is_recorded(
+    body: &[u8],
+    left: Left,
+    image: &[u8],
+    memory: &[u8],
+    pipe: &[u8],
+    report: &[u8],
+    status: u32,
+) -> bool
+    ensures { λ r. ⌜ r ≡ turnRecorded (now (body .entry)) left (now (image .entry)) (now (memory .entry)) (now (pipe .entry)) (now (report .entry)) status ⌝ }
+{
+    let is_kept = both(
+        is_same(image, body, left.image),
+        is_same(memory, body, left.memory),
+    );
+    let is_told = both(
+        is_same(pipe, body, left.pipe),
+        is_same(report, body, left.report),
+    );
+    let is_returned = status == peek_word(report, 0);
+    both(
+        both(is_kept, is_told),
+        both(is_returned, is_last(body, left.report)),
+    )
 }
 
 // Makes the call on copies of what was recorded before it, and compares what it leaves.
@@ -63,17 +95,9 @@ fn compare_answer(
         pipe,
         &mut report,
     );
-    let is_kept = both(
-        is_same(image, body, left.image),
-        is_same(memory, body, left.memory),
-    );
-    let is_told = both(
-        is_same(pipe, body, left.pipe),
-        is_same(&report, body, left.report),
-    );
     Seen::Turn(
         status,
-        both(both(is_kept, is_told), status == peek_word(&report, 0)),
+        is_recorded(body, left, image, memory, pipe, &report, status),
     )
 }
 

@@ -1,0 +1,32 @@
+-- `compare::turn::left_after` meets its contract. Assumes nothing.
+use Rattle.compare.specs.Answer.{leftAfter}
+use Rattle.compare.specs.Piece.{pieceOn}
+use borrow.Author.Needs.{needs}
+use Rattle.compare.proofs.turn.left_after.Statement.{statement}
+use Rattle.compare.proofs.turn.left_after.Tie as tie
+
+piece-after-requires : tie.Need-piece-after-requires
+piece-after-requires c κs = search needs
+
+piece-after-requires-2 : tie.Need-piece-after-requires-2
+piece-after-requires-2 c κs = search needs
+
+piece-after-requires-3 : tie.Need-piece-after-requires-3
+piece-after-requires-3 c κs = search needs
+
+piece-after-requires-4 : tie.Need-piece-after-requires-4
+piece-after-requires-4 c κs = search needs
+
+returns : tie.Need-returns
+unfolding leftAfter pieceOn
+returns c = cc
+
+pub left-after-spec : {M : Type 1} → statement M
+left-after-spec =
+    tie.close
+    (tie.spec
+    piece-after-requires
+    piece-after-requires-2
+    piece-after-requires-3
+    piece-after-requires-4
+    returns)
