@@ -25,6 +25,10 @@ turnRecorded body left image memory pipe report status =
     && (isPiece pipe body (left .pipe) && isPiece report body (left .report)))
     && (eqb status (wordAt report 0) && isLast body (left .report))
 
+-- what a fresh device is made of: an image of 372 bytes, windows of 32, a memory's length of 8
+unfoldable pub areWhole : Piece → Piece → Piece → Bool
+areWhole image windows memory = eqb (image .length) 372 && (eqb (windows .length) 32 && eqb (memory .length) 8)
+
 -- a fresh device: its image and the answer's word are those recorded
 unfoldable pub freshRecorded : List ℕ → Piece → Piece → List ℕ → List ℕ → Bool
 freshRecorded body after recorded image answer =

@@ -1,6 +1,6 @@
 // A recorded making of a fresh device.
 ghost use mathlib.Core.Path.{_≡_};
-ghost use Rattle.compare.specs.Answer.{freshRecorded};
+ghost use Rattle.compare.specs.Answer.{areWhole, freshRecorded};
 use crate::piece::Piece;
 use crate::piece::is_last;
 use crate::piece::is_same;
@@ -28,12 +28,25 @@ fn is_recorded(body: &[u8], after: Piece, recorded: Piece, image: &[u8], answer:
     )
 }
 
+// Whether the lent pieces have the lengths of those of a call.
+fn are_whole(image: Piece, windows: Piece, length: Piece) -> bool
+    ensures { λ r. ⌜ r ≡ areWhole image windows length ⌝ }
+{
+    both(
+        image.length == 372,
+        both(windows.length == 32, length.length == 8),
+    )
+}
+
 pub fn compare(body: &[u8]) -> Seen {
     let windows = piece_at(body, 4);
     let length = piece_after(body, windows);
     let before = piece_after(body, length);
     let after = piece_after(body, before);
     let recorded = piece_after(body, after);
+    if !are_whole(before, windows, length) {
+        return Seen::Damaged;
+    }
     let mut image = [0u8; 372];
     let mut pairs = [0u8; 32];
     let mut bytes = [0u8; 8];

@@ -111,6 +111,9 @@ pub fn compare(body: &[u8], memory: &mut [u8], room: &mut [u8]) -> Seen {
     let ends = ends_of(lent);
     let memory_length = before.length as usize;
     let pipe_length = pipe.length as usize;
+    if image.length != 372 {
+        return Seen::Damaged;
+    }
     if memory.len() < memory_length {
         return Seen::Damaged;
     }

@@ -42,8 +42,8 @@ fn slot_in(slots: &[u32], n: u8) -> u32
     if at < slots.len() { slots[at] } else { 0 }
 }
 
-// Whether a ring has a ready head command. The slots are lent, and not the device handed over: copies of it would cost
-// more than all else.
+// Whether a ring has a ready head command. The slots are lent, and the device is not handed over: four copies of it are a
+// large part of an empty turn.
 fn is_ready(ring: Ring, slots: &[u32], bytes: &[u8]) -> bool
     requires { ⌜ ring .cursor ≤ 65536 ⌝ }
     ensures { λ r. ⌜ r ≡ readyWhere ring (now (slots .entry)) (now (bytes .entry)) ⌝ }

@@ -38,6 +38,9 @@ returns-2 c = search needs
 returns-3 : tie.Need-returns-3
 returns-3 c = search needs
 
+returns-4 : tie.Need-returns-4
+returns-4 c = search needs
+
 slice-aggregate-lay : tie.Need-slice-aggregate-lay
 slice-aggregate-lay c = search needs
 
@@ -64,14 +67,14 @@ slice-relend-prefix-compare-answer c = search needs
 
 slice-aggregate-compare-answer-2 : tie.Need-slice-aggregate-compare-answer-2
 slice-aggregate-compare-answer-2 c =
-    sym (length-take-le _ _ (rw (c .before .before .before .before .before .before .before .before .before .before .before .lay-part .kept .0) (c .before .before .before .before .before .before .before .before .before .before .before .before .before .before .before .before .before .before .before .if1 .left)))
+    sym (length-take-le _ _ (rw (c .before .before .before .before .before .before .before .before .before .before .before .lay-part .kept .0) (c .before .before .before .before .before .before .before .before .before .before .before .before .before .before .before .before .before .before .before .if2 .left)))
 
 array-borrow-prefix-pipe-bytes : tie.Need-array-borrow-prefix-pipe-bytes
 array-borrow-prefix-pipe-bytes c = search needs
 
 slice-aggregate-compare-answer-3 : tie.Need-slice-aggregate-compare-answer-3
 slice-aggregate-compare-answer-3 c =
-    sym (length-take-le _ _ (rw (c .before .before .before .before .before .before .before .before .before .lay-part2 .kept .0) (c .before .before .before .before .before .before .before .before .before .before .before .before .before .before .before .before .before .before .if3 .left)))
+    sym (length-take-le _ _ (rw (c .before .before .before .before .before .before .before .before .before .lay-part2 .kept .0) (c .before .before .before .before .before .before .before .before .before .before .before .before .before .before .before .before .before .before .if4 .left)))
 
 compare-answer-requires : tie.Need-compare-answer-requires
 compare-answer-requires c κs = search needs
@@ -82,8 +85,8 @@ same-length c = search needs
 same-length-2 : tie.Need-same-length-2
 same-length-2 c = search needs
 
-returns-4 : tie.Need-returns-4
-returns-4 c = search needs
+returns-5 : tie.Need-returns-5
+returns-5 c = search needs
 
 pub compare-spec : {M : Type 1} → statement M
 compare-spec =
@@ -100,6 +103,7 @@ compare-spec =
     returns
     returns-2
     returns-3
+    returns-4
     slice-aggregate-lay
     lay-requires
     lay-part-requires
@@ -114,4 +118,4 @@ compare-spec =
     compare-answer-requires
     same-length
     same-length-2
-    returns-4)
+    returns-5)
