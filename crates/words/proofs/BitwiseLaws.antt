@@ -1,6 +1,6 @@
 -- Each bit of a bitwise result depends on the same bit of the two numbers alone.
 -- Assumes nothing.
-use mathlib.Core.Path.{_≡_, refl, ap, ap₂, _∙_}
+use mathlib.Core.Path.{_≡_, refl, ap, _∙_}
 use Prim.Native.Nat.{ℕ, zero, suc, _+_, _*_, _/_, _%_, _^_, _<_, max}
 use native.Mathlib.Nat.{mod-lt}
 use native.Mathlib.Omega.{arith}
