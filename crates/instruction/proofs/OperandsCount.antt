@@ -3,7 +3,7 @@
 use mathlib.Core.Path.{_≡_, refl, ap}
 use mathlib.Core.Bool.{true, false}
 use mathlib.Core.List.{List, []}
-use Prim.Native.Nat.{ℕ, _+_, _-_, _%_, _^_}
+use Prim.Native.Nat.{ℕ, _+_, _-_, _%_, _^_, _<_}
 use native.Mathlib.Omega.{arith}
 use lib.Dec.{eqb}
 use lib.ListN.{replicate}
@@ -33,20 +33,26 @@ use Rattle.instruction.specs.Vectors.{broadcast}
 use Rattle.instruction.specs.Operands.{reads1, reads2}
 use Rattle.instruction.proofs.OperandLaws.{said-no}
 
--- two values of rs1 with which an instruction does two things
-pub record Rs1Counts (op : Op) : Type 0 where
+-- two words in rs1 with which an instruction does two things, whatever the vectors are
+pub record Rs1Counts (op : Op) (vectors : List ℕ) : Type 0 where
   pub x : ℕ
   pub x′ : ℕ
   pub y : ℕ
   pub window : List ℕ
-  pub differ : effectOf op x y [] window ≡ effectOf op x′ y [] window → ⊥
+  pub x-word : x < 2 ^ 32
+  pub x′-word : x′ < 2 ^ 32
+  pub y-word : y < 2 ^ 32
+  pub differ : effectOf op x y vectors window ≡ effectOf op x′ y vectors window → ⊥
 
--- two values of rs2 with which an instruction does two things
-pub record Rs2Counts (op : Op) : Type 0 where
+-- two words in rs2 with which an instruction does two things, whatever the vectors and the window are
+pub record Rs2Counts (op : Op) (vectors window : List ℕ) : Type 0 where
   pub x : ℕ
   pub y : ℕ
   pub y′ : ℕ
-  pub differ : effectOf op x y [] [] ≡ effectOf op x y′ [] [] → ⊥
+  pub x-word : x < 2 ^ 32
+  pub y-word : y < 2 ^ 32
+  pub y′-word : y′ < 2 ^ 32
+  pub differ : effectOf op x y vectors window ≡ effectOf op x y′ vectors window → ⊥
 
 -- the immediate of an operation taken as 1: of ANDI with 0, say, the result is 0 whatever rs1 is
 unfoldable pub withOne : Op → Op
@@ -140,70 +146,171 @@ load-rs1 Byte = put-or-stop _ _
 load-rs1 Half = put-or-stop _ _
 load-rs1 Word = put-or-stop _ _
 
--- a value of rs1 that makes the address 0
+-- a word that makes the address 0
 toZero : ℕ → ℕ
-toZero imm = 2 ^ 32 - imm % 2 ^ 32
+toZero imm = (2 ^ 32 - imm % 2 ^ 32) % 2 ^ 32
+
+-- a word that makes the address 4
+toFour : ℕ → ℕ
+toFour imm = (toZero imm + 4) % 2 ^ 32
 
 at-0 : (imm : ℕ) → (toZero imm + imm) % 2 ^ 32 ≡ 0
 unfolding toZero
 at-0 imm = omega arith
 
-at-4 : (imm : ℕ) → (toZero imm + 4 + imm) % 2 ^ 32 ≡ 4
-unfolding toZero
+at-4 : (imm : ℕ) → (toFour imm + imm) % 2 ^ 32 ≡ 4
+unfolding toZero toFour
 at-4 imm = omega arith
 
--- where rs1 is read its value counts
-pub rs1-read : (op : Op) → reads1 op ≡ true → Rs1Counts (withOne op)
-unfolding reads1 withOne effectOf loadedQuadEffect loadQuadOf reachOf ifInside
-rs1-read (Alu o) e = record { x = 0; x′ = 3; y = 1; window = []; differ = puts-differ _ _ (alu-rs1 o) }
-rs1-read (Unary o) e = record { x = 0; x′ = 1; y = 0; window = []; differ = puts-differ _ _ (unary-rs1 o) }
-rs1-read (AluImm o imm) e = record { x = 0; x′ = 3; y = 0; window = []; differ = puts-differ _ _ (alu-rs1 o) }
-rs1-read (Lui imm) e = absurd (said-no e)
-rs1-read (Branch c offset) e = record { x = 0; x′ = 1; y = 1; window = []; differ = branch-rs1 c offset }
-rs1-read (Load width imm) e = record {
-  x = toZero imm;
-  x′ = toZero imm + 4;
-  y = 0;
-  window = replicate 4 0;
-  differ = rw (at-0 imm, at-4 imm) (load-rs1 width);
-}
-rs1-read (Store width imm) e = record {
-  x = 0;
-  x′ = 1;
-  y = 0;
-  window = [];
-  differ = λ s. let same : sum 32 0 imm ≡ sum 32 1 imm = cc in omega arith;
-}
-rs1-read Membar e = absurd (said-no e)
-rs1-read Wfi e = absurd (said-no e)
-rs1-read (Vector op ty vd v1 v2) e = absurd (said-no e)
-rs1-read (Vbcast vd) e = record {
-  x = 0;
-  x′ = 1;
-  y = 0;
-  window = [];
-  differ = λ s. let same : broadcast 0 ≡ broadcast 1 = cc in omega (arith, ap (λ (q : Quad). q .w0) same);
-}
-rs1-read (Vextr v1) e = absurd (said-no e)
-rs1-read (Vld vd) e = record { x = 0; x′ = 1; y = 0; window = replicate 16 0; differ = quad-or-stop _ _ _ }
-rs1-read (Vst v2) e = record { x = 0; x′ = 1; y = 0; window = []; differ = λ s. let same : _≡_ {A = ℕ} 0 1 = cc in omega arith }
-rs1-read Unlisted e = absurd (said-no e)
+to-zero-word : (imm : ℕ) → toZero imm < 2 ^ 32
+unfolding toZero
+to-zero-word imm = omega arith
 
--- where rs2 is read its value counts
-pub rs2-read : (op : Op) → reads2 op ≡ true → Rs2Counts op
-unfolding reads2 effectOf
-rs2-read (Alu o) e = record { x = 3; y = 0; y′ = 5; differ = puts-differ _ _ (alu-rs2 o) }
-rs2-read (Unary o) e = absurd (said-no e)
-rs2-read (AluImm o imm) e = absurd (said-no e)
-rs2-read (Lui imm) e = absurd (said-no e)
-rs2-read (Branch c offset) e = record { x = 0; y = 0; y′ = 1; differ = branch-rs2 c offset }
-rs2-read (Load width imm) e = absurd (said-no e)
-rs2-read (Store width imm) e = record { x = 0; y = 0; y′ = 1; differ = λ s. let same : _≡_ {A = ℕ} 0 1 = cc in omega arith }
-rs2-read Membar e = absurd (said-no e)
-rs2-read Wfi e = absurd (said-no e)
-rs2-read (Vector op ty vd v1 v2) e = absurd (said-no e)
-rs2-read (Vbcast vd) e = absurd (said-no e)
-rs2-read (Vextr v1) e = absurd (said-no e)
-rs2-read (Vld vd) e = absurd (said-no e)
-rs2-read (Vst v2) e = absurd (said-no e)
-rs2-read Unlisted e = absurd (said-no e)
+to-four-word : (imm : ℕ) → toFour imm < 2 ^ 32
+unfolding toFour
+to-four-word imm = omega arith
+
+module _ (vectors : List ℕ) where
+  -- where rs1 is read its value counts
+  pub rs1-read : (op : Op) → reads1 op ≡ true → Rs1Counts (withOne op) vectors
+  unfolding reads1 withOne effectOf loadedQuadEffect loadQuadOf reachOf ifInside
+  rs1-read (Alu o) e = record {
+    x = 0;
+    x′ = 3;
+    y = 1;
+    window = [];
+    x-word = omega arith;
+    x′-word = omega arith;
+    y-word = omega arith;
+    differ = puts-differ _ _ (alu-rs1 o);
+  }
+  rs1-read (Unary o) e = record {
+    x = 0;
+    x′ = 1;
+    y = 0;
+    window = [];
+    x-word = omega arith;
+    x′-word = omega arith;
+    y-word = omega arith;
+    differ = puts-differ _ _ (unary-rs1 o);
+  }
+  rs1-read (AluImm o imm) e = record {
+    x = 0;
+    x′ = 3;
+    y = 0;
+    window = [];
+    x-word = omega arith;
+    x′-word = omega arith;
+    y-word = omega arith;
+    differ = puts-differ _ _ (alu-rs1 o);
+  }
+  rs1-read (Lui imm) e = absurd (said-no e)
+  rs1-read (Branch c offset) e = record {
+    x = 0;
+    x′ = 1;
+    y = 1;
+    window = [];
+    x-word = omega arith;
+    x′-word = omega arith;
+    y-word = omega arith;
+    differ = branch-rs1 c offset;
+  }
+  rs1-read (Load width imm) e = record {
+    x = toZero imm;
+    x′ = toFour imm;
+    y = 0;
+    window = replicate 4 0;
+    x-word = to-zero-word imm;
+    x′-word = to-four-word imm;
+    y-word = omega arith;
+    differ = rw (at-0 imm, at-4 imm) (load-rs1 width);
+  }
+  rs1-read (Store width imm) e = record {
+    x = 0;
+    x′ = 1;
+    y = 0;
+    window = [];
+    x-word = omega arith;
+    x′-word = omega arith;
+    y-word = omega arith;
+    differ = λ s. let same : sum 32 0 imm ≡ sum 32 1 imm = cc in omega arith;
+  }
+  rs1-read Membar e = absurd (said-no e)
+  rs1-read Wfi e = absurd (said-no e)
+  rs1-read (Vector op ty vd v1 v2) e = absurd (said-no e)
+  rs1-read (Vbcast vd) e = record {
+    x = 0;
+    x′ = 1;
+    y = 0;
+    window = [];
+    x-word = omega arith;
+    x′-word = omega arith;
+    y-word = omega arith;
+    differ = λ s. let same : broadcast 0 ≡ broadcast 1 = cc in omega (arith, ap (λ (q : Quad). q .w0) same);
+  }
+  rs1-read (Vextr v1) e = absurd (said-no e)
+  rs1-read (Vld vd) e = record {
+    x = 0;
+    x′ = 1;
+    y = 0;
+    window = replicate 16 0;
+    x-word = omega arith;
+    x′-word = omega arith;
+    y-word = omega arith;
+    differ = quad-or-stop _ _ _;
+  }
+  rs1-read (Vst v2) e = record {
+    x = 0;
+    x′ = 1;
+    y = 0;
+    window = [];
+    x-word = omega arith;
+    x′-word = omega arith;
+    y-word = omega arith;
+    differ = λ s. let same : _≡_ {A = ℕ} 0 1 = cc in omega arith;
+  }
+  rs1-read Unlisted e = absurd (said-no e)
+
+module _ (vectors window : List ℕ) where
+  -- where rs2 is read its value counts
+  pub rs2-read : (op : Op) → reads2 op ≡ true → Rs2Counts op vectors window
+  unfolding reads2 effectOf
+  rs2-read (Alu o) e = record {
+    x = 3;
+    y = 0;
+    y′ = 5;
+    x-word = omega arith;
+    y-word = omega arith;
+    y′-word = omega arith;
+    differ = puts-differ _ _ (alu-rs2 o);
+  }
+  rs2-read (Unary o) e = absurd (said-no e)
+  rs2-read (AluImm o imm) e = absurd (said-no e)
+  rs2-read (Lui imm) e = absurd (said-no e)
+  rs2-read (Branch c offset) e = record {
+    x = 0;
+    y = 0;
+    y′ = 1;
+    x-word = omega arith;
+    y-word = omega arith;
+    y′-word = omega arith;
+    differ = branch-rs2 c offset;
+  }
+  rs2-read (Load width imm) e = absurd (said-no e)
+  rs2-read (Store width imm) e = record {
+    x = 0;
+    y = 0;
+    y′ = 1;
+    x-word = omega arith;
+    y-word = omega arith;
+    y′-word = omega arith;
+    differ = λ s. let same : _≡_ {A = ℕ} 0 1 = cc in omega arith;
+  }
+  rs2-read Membar e = absurd (said-no e)
+  rs2-read Wfi e = absurd (said-no e)
+  rs2-read (Vector op ty vd v1 v2) e = absurd (said-no e)
+  rs2-read (Vbcast vd) e = absurd (said-no e)
+  rs2-read (Vextr v1) e = absurd (said-no e)
+  rs2-read (Vld vd) e = absurd (said-no e)
+  rs2-read (Vst v2) e = absurd (said-no e)
+  rs2-read Unlisted e = absurd (said-no e)
