@@ -5,14 +5,13 @@ use mathlib.Core.List.{List}
 use Prim.Native.Nat.{ℕ, zero, suc, _+_, _*_, _≤_, _<_}
 use native.Mathlib.Nat.{mul-zero, zero-lt-suc, not-suc-le-zero}
 use native.Mathlib.Numerals.{add-one}
-use native.Mathlib.Omega.{arith}
 use Rattle.memory.specs.After.{after}
 use Rattle.instruction.specs.declared.effect.Stop.{Stop}
 use Rattle.kernel.proofs.Settled.{after-stays}
 use Rattle.kernel.specs.declared.pack.Kernel.{Kernel}
 use Rattle.kernel.specs.declared.dispatch.Ran.{Ran}
 use Rattle.kernel.specs.declared.dispatch.Ran.the-variants.{Done, Stopped}
-use Rattle.kernel.specs.Dispatch.{Dispatched, ShowsRan, ifDone, going, threadOf, threadMore, threadsOf}
+use Rattle.kernel.specs.Dispatch.{ShowsRan, ifDone, going, threadOf, threadMore, threadsOf}
 
 -- a dispatch that has a thread has threads in a group
 pub threads-positive : (groups threads i : ℕ) → i < groups * threads → 0 < threads

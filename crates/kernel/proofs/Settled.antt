@@ -1,7 +1,7 @@
 -- What no turn changes any more stays.
 -- Assumes nothing.
 use mathlib.Core.Path.{_≡_, refl, ap, _∙_}
-use Prim.Native.Nat.{ℕ, suc, _≤_}
+use Prim.Native.Nat.{ℕ, _≤_}
 use native.Mathlib.Decide.{le-ind}
 use Rattle.memory.specs.After.{after}
 

@@ -1,7 +1,7 @@
 -- `kernel::dispatch::run_thread` meets its contract. Assumes nothing.
 use Rattle.kernel.specs.Dispatch.{threadOf, shown}
 use Rattle.kernel.proofs.Dispatches.{threads-positive}
-use native.Mathlib.Nat.{mod-lt, div-lt-iff-lt-mul, lt-trans}
+use native.Mathlib.Nat.{mod-lt, div-lt-iff-lt-mul}
 use native.Mathlib.Omega.{arith}
 use borrow.Author.Needs.{needs}
 use Rattle.kernel.proofs.dispatch.run_thread.Statement.{statement}

@@ -1,7 +1,7 @@
 -- `kernel::pack::all_lie` meets its contract. The loop's invariant: `all` says whether each of the first k kernels lies in the code.
 -- Assumes nothing.
 use Prim.Native.Nat.{_-_, _≤_}
-use mathlib.Core.Path.{_≡_, refl, ap}
+use mathlib.Core.Path.{_≡_, refl}
 use native.Mathlib.Numerals.{add-one}
 use native.Mathlib.Omega.{arith}
 use native.Mathlib.Nat.{le-antisymm}

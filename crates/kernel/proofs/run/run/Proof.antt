@@ -1,9 +1,8 @@
 -- `kernel::run::run` meets its contract. The loop's invariant: after `taken` steps the thread is still running.
 -- Assumes nothing.
 use Prim.Native.Nat.{_+_, _-_, _≤_}
-use mathlib.Core.Path.{_≡_, refl, sym, _∙_}
+use mathlib.Core.Path.{_≡_, refl, _∙_}
 use native.Mathlib.Omega.{arith}
-use native.Mathlib.Nat.{le-antisymm}
 use lib.ListN.{length}
 use borrow.Author.Needs.{needs}
 use Rattle.kernel.specs.Run.{running, stepsOf}
