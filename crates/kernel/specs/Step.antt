@@ -1,5 +1,5 @@
 -- One step of a thread. The order is: 14, running off the end (12), 11, then the branch (12) or the address (13).
-use Prim.Native.Nat.{ℕ, _+_, _%_}
+use Prim.Native.Nat.{ℕ, _%_}
 use mathlib.Core.Path.{_≡_}
 use mathlib.Core.Bool.{Bool, cond, _&&_}
 use mathlib.Core.List.{List}
