@@ -8,9 +8,6 @@ use borrow.Author.Needs.{needs}
 use Rattle.kernel.proofs.registers.Registers.scalar.Statement.{statement}
 use Rattle.kernel.proofs.registers.Registers.scalar.Tie as tie
 
-cast-at : tie.Need-cast-at
-cast-at c = search needs
-
 mul-result : tie.Need-mul-result
 mul-result c = search needs
 
@@ -26,4 +23,4 @@ unfolding scalarOf
 returns-2 c = let other : c .before .before .args .n % 32 ≡ 0 → ⊥ = λ e. omega arith in simp (ne-eqb _ _ other)
 
 pub scalar-spec : {M : Type 1} → statement M
-scalar-spec = tie.close (tie.spec cast-at mul-result element-copy-out-result returns returns-2)
+scalar-spec = tie.close (tie.spec mul-result element-copy-out-result returns returns-2)

@@ -5,9 +5,6 @@ use borrow.Author.Needs.{needs}
 use Rattle.kernel.proofs.registers.Registers.with_scalar.Statement.{statement}
 use Rattle.kernel.proofs.registers.Registers.with_scalar.Tie as tie
 
-cast-at : tie.Need-cast-at
-cast-at c = search needs
-
 mul-self : tie.Need-mul-self
 mul-self c = search needs
 
@@ -19,4 +16,4 @@ unfolding withScalar
 returns c = rw (mod-eq-of-lt (c .fits .value .fits))
 
 pub with-scalar-spec : {M : Type 1} → statement M
-with-scalar-spec = tie.close (tie.spec cast-at mul-self element-write-self returns)
+with-scalar-spec = tie.close (tie.spec mul-self element-write-self returns)
