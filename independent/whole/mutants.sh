@@ -2,7 +2,7 @@
 # mutants.sh BUILD SEED: builds each error of self.c into the comparison, which must tell it, and none, which must not differ.
 # BUILD: the folder of this folder's objects; CC, CFLAGS and LDFLAGS as for make.
 set -eu
-here=$(cd "$(dirname "$0")" && pwd -P)
+here=$(cd "$(dirname "$(readlink -f "$0")")" && pwd -P)
 build=$1
 seed=$2
 missed=0
