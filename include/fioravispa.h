@@ -81,12 +81,14 @@ enum {
     FV_OUTCOME_SLOT = 4,          /* emit or wait set and rdst above 63 */
     FV_OUTCOME_FULL = 5,          /* emit set and the slot holds 4,294,967,295 */
     FV_OUTCOME_UNALIGNED = 6,     /* an address, or SET_FB's base or stride, not a multiple of 4 */
-    FV_OUTCOME_FRAME = 7,         /* FILL or BLIT with no frame, or wider than the stride */
+    FV_OUTCOME_FRAME = 7,         /* FILL or BLIT with no frame; or, width and height nonzero,
+                                   * 4 * width above the stride */
     FV_OUTCOME_OUTSIDE = 8,       /* bytes outside the window, or SET_FB base not below its length */
     FV_OUTCOME_FORMAT = 9,        /* stride outside 4 to 65,536, or format not 0 */
     FV_OUTCOME_DISPATCH = 10,     /* groups or threads outside 1 to 64, or no such kernel */
     FV_OUTCOME_INSTRUCTION = 11,  /* word not in the instruction list */
-    FV_OUTCOME_PLACE = 12,        /* taken branch to no place inside the kernel, or running off its end */
+    FV_OUTCOME_PLACE = 12,        /* taken branch to a place that is not a multiple of 4 inside the kernel;
+                                   * or running off its end */
     FV_OUTCOME_ACCESS = 13,       /* load or store not wholly in the window */
     FV_OUTCOME_STEPS = 14         /* thread already took 4,096 steps */
 };
