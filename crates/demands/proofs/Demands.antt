@@ -4,7 +4,7 @@ use Rattle.demands.specs.Keeps.{TurnKeeps, FreshMakes}
 use Rattle.demands.specs.Reports.{TurnReports}
 use Rattle.demands.specs.Bounded.{TurnsBounded, IdleInTime, FreshIdleInTime}
 use Rattle.demands.specs.Idle.{IdleIsDone}
-use Rattle.demands.specs.StepByStep.{EachStep}
+use Rattle.demands.specs.EachStep.{EachStep}
 use Rattle.demands.specs.OneAnswer.{OneAnswer}
 use Rattle.demands.specs.Table.{Table}
 use Rattle.demands.proofs.FourTurns as four

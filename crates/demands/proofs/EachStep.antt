@@ -28,7 +28,7 @@ use Rattle.device.specs.declared.turn.Answer.the-variants.{Served}
 use Rattle.device.specs.State.{ringOf, slotOf}
 use Rattle.device.specs.Turn.{Call, servedOf}
 use Rattle.demands.specs.Calls.{ringIn, headIn, answerOf}
-use Rattle.demands.specs.StepByStep.{windowIn, Dispatches, threadsIn, Leaves, ThreadsInOrder, StepsInOrder, StepByRule, EachStep}
+use Rattle.demands.specs.EachStep.{windowIn, Dispatches, threadsIn, Leaves, ThreadsInOrder, StepsInOrder, StepByRule, EachStep}
 use Rattle.demands.proofs.Turns.{workIn, was-served}
 
 -- the work of a DISPATCH_1D with no fault is what its threads leave

@@ -6,4 +6,4 @@ pub mod Bounded
 pub mod Idle
 pub mod Table
 pub mod OneAnswer
-pub mod StepByStep
+pub mod EachStep

@@ -11,7 +11,6 @@ use Rattle.memory.specs.declared.quad.Quad.{Quad}
 use Rattle.memory.specs.declared.address.Reach.the-variants.{Outside}
 use Rattle.memory.specs.Access.{bytesOf}
 use Rattle.memory.specs.Address.{reachOf}
-use Rattle.memory.specs.Place.{wordAt}
 use Rattle.memory.specs.Window.{windowOf, putBack}
 use Rattle.instruction.specs.declared.list.Instr.{Instr}
 use Rattle.instruction.specs.declared.list.Op.the-variants.{Load, Vld, Unlisted}
@@ -24,7 +23,7 @@ use Rattle.kernel.specs.declared.pack.Kernel.{Kernel}
 use Rattle.kernel.specs.declared.thread.Thread.{Thread}
 use Rattle.kernel.specs.declared.step.Progress.the-variants.{Ended, Stopped}
 use Rattle.kernel.specs.declared.dispatch.Ran.the-variants.{Stopped as StoppedFor}
-use Rattle.kernel.specs.Pack.{kernelOf}
+use Rattle.kernel.specs.Pack.{kernelOf, codeWord}
 use Rattle.kernel.specs.Registers.{scalarOf}
 use Rattle.kernel.specs.Thread.{started}
 use Rattle.kernel.specs.Step.{State, stops, lands, applied, executed, stepOf}
@@ -103,11 +102,11 @@ pub record StepByRule (limit : ℕ) (pack : List ℕ) (kernel : Kernel) (t : Thr
   -- else one that ran off the kernel's end
   pub off-the-end : t .steps < limit → kernel .length ≤ t .place → stepOf limit pack kernel t window ≡ stoppedAs OffTheKernel t window
   -- else a word that is not in the list
-  pub not-listed : t .steps < limit → t .place < kernel .length → opOf (wordAt pack (kernel .start + t .place)) ≡ Unlisted
+  pub not-listed : t .steps < limit → t .place < kernel .length → opOf (codeWord pack kernel (t .place)) ≡ Unlisted
       → stepOf limit pack kernel t window ≡ stoppedAs NotListed t window
   -- else the instruction that stands there
   pub instruction : t .steps < limit → t .place < kernel .length
-      → stepOf limit pack kernel t window ≡ executed (kernel .length) (decoded (wordAt pack (kernel .start + t .place))) t window
+      → stepOf limit pack kernel t window ≡ executed (kernel .length) (decoded (codeWord pack kernel (t .place))) t window
   -- whose rule goes by the values of its operands
   pub rule : (i : Instr)
       → executed (kernel .length) i t window
