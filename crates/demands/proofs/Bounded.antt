@@ -18,7 +18,7 @@ use Rattle.device.specs.Turn.{Call, unchanged, finished, servedOf}
 use Rattle.device.specs.Left.{Shaped, leftOf, sumOf, bytesLeft}
 use Rattle.device.proofs.Verdicts.{each-of-four}
 use Rattle.device.proofs.BytesLeft.{served-takes}
-use Rattle.demands.specs.Calls.{answerOf, deviceOf, isRefused, heard, none, more}
+use Rattle.demands.specs.Calls.{answerOf, leftBy, isRefused, heard, none, more}
 use Rattle.demands.specs.Bounded.{Lends, served, taken, leftIn, SaysIdle, here, later, TurnsBounded, IdleInTime, FreshIdleInTime}
 use Rattle.demands.proofs.Turns.{turn-cases, was-served, picked-servable}
 use Rattle.demands.proofs.Devices.{after-shaped}
@@ -31,7 +31,7 @@ unfolding bytesLeft sumOf
 lent-left R d call lends = rw (lends 0 (lit< tt), lends 1 (lit< tt), lends 2 (lit< tt), lends 3 (lit< tt))
 
 -- a turn leaves the form of a device
-turn-shaped : (limit : ℕ) (d : Device) (call : Call) → Shaped d → Shaped (deviceOf limit d call)
+turn-shaped : (limit : ℕ) (d : Device) (call : Call) → Shaped d → Shaped (leftBy limit d call)
 unfolding unchanged servedOf finished
 turn-shaped limit d call shaped =
     turn-cases limit d call (λ a. Shaped (a .turned .device)) (λ why v. shaped) (λ v p. shaped) (λ r v p. after-shaped d r _ _ shaped)
@@ -48,11 +48,11 @@ record Takes (R : ℕ → List ℕ) (d after : Device) (answer : Answer) : Type 
   counts : (answer ≡ Idle) ⊎ (either (isRefused answer) 0 1 ≡ sumOf 4 (served answer))
 
 module _ (limit : ℕ) (d : Device) (call : Call) (R : ℕ → List ℕ) (shaped : Shaped d) where
-  turn-takes : (isRefused (answerOf limit d call) ≡ false → Lends R call) → Takes R d (deviceOf limit d call) (answerOf limit d call)
+  turn-takes : (isRefused (answerOf limit d call) ≡ false → Lends R call) → Takes R d (leftBy limit d call) (answerOf limit d call)
   unfolding sumOf served isRefused either
   turn-takes lends = go (answerOf limit d call) refl lends
     where
-      go : (answer : Answer) → answerOf limit d call ≡ answer → (isRefused answer ≡ false → Lends R call) → Takes R d (deviceOf limit d call) answer
+      go : (answer : Answer) → answerOf limit d call ≡ answer → (isRefused answer ≡ false → Lends R call) → Takes R d (leftBy limit d call) answer
       go (Refused why) e lends =
           let same = keeps limit d call .refused (rw e) .device in
           record { bytes = omega (arith, ap (leftIn R) same); counts = inr refl }
@@ -64,7 +64,7 @@ module _ (limit : ℕ) (d : Device) (call : Call) (R : ℕ → List ℕ) (shaped
           let one = one-served report (picked-servable d call (report .ring) (was .sound) (was .pick) .number) in
           let lent = lends refl in
           record {
-            bytes = omega (arith, one, served-takes limit d call shaped report e, lent-left R d call lent, lent-left R (deviceOf limit d call) call lent);
+            bytes = omega (arith, one, served-takes limit d call shaped report e, lent-left R d call lent, lent-left R (leftBy limit d call) call lent);
             counts = inr (omega (arith, one));
           }
 
@@ -77,8 +77,8 @@ unfolding TurnsBounded taken
 turns-bounded limit d R [] shaped none = omega (arith, none-taken limit d)
 turns-bounded limit d R (call ∷ calls) shaped (more lends each) =
     let now = turn-takes limit d call R shaped lends in
-    let further = turns-bounded limit (deviceOf limit d call) R calls (turn-shaped limit d call shaped) each in
-    let both = sum-both (taken limit d (call ∷ calls)) (served (answerOf limit d call)) (taken limit (deviceOf limit d call) calls) (λ q four. refl) in
+    let further = turns-bounded limit (leftBy limit d call) R calls (turn-shaped limit d call shaped) each in
+    let both = sum-both (taken limit d (call ∷ calls)) (served (answerOf limit d call)) (taken limit (leftBy limit d call) calls) (λ q four. refl) in
     omega (arith, now .bytes, further, both)
 
 pub idle-in-time : IdleInTime
@@ -86,11 +86,11 @@ unfolding IdleInTime heard
 idle-in-time limit d R [] shaped none enough = absurd (not-suc-le-zero enough)
 idle-in-time limit d R (call ∷ calls) shaped (more lends each) enough =
     let now = turn-takes limit d call R shaped lends in
-    go (now .bytes) (now .counts) (idle-in-time limit (deviceOf limit d call) R calls (turn-shaped limit d call shaped) each)
+    go (now .bytes) (now .counts) (idle-in-time limit (leftBy limit d call) R calls (turn-shaped limit d call shaped) each)
   where
-    go : 16 * sumOf 4 (served (answerOf limit d call)) + leftIn R (deviceOf limit d call) ≤ leftIn R d
+    go : 16 * sumOf 4 (served (answerOf limit d call)) + leftIn R (leftBy limit d call) ≤ leftIn R d
         → (answerOf limit d call ≡ Idle) ⊎ (either (isRefused (answerOf limit d call)) 0 1 ≡ sumOf 4 (served (answerOf limit d call)))
-        → (leftIn R (deviceOf limit d call) < 16 * heard limit (deviceOf limit d call) calls → SaysIdle limit (deviceOf limit d call) calls)
+        → (leftIn R (leftBy limit d call) < 16 * heard limit (leftBy limit d call) calls → SaysIdle limit (leftBy limit d call) calls)
         → SaysIdle limit d (call ∷ calls)
     go bytes (inl idle) further = here idle
     go bytes (inr counted) further = later (further (omega (arith, bytes, counted, enough)))

@@ -25,7 +25,7 @@ use Rattle.device.specs.Ready.{isMet, readyWith, readyWhere, readyAt, pickOf}
 use Rattle.device.specs.Turn.{Call, After, turnOf, unchanged, reportOf, finished, servedOf}
 use Rattle.device.proofs.Wholes.{whole-inside}
 use Rattle.device.proofs.BytesLeft.{other-ring}
-use Rattle.demands.specs.Calls.{ringIn, headIn, answerOf, deviceOf, isRefused, ServesRing, SlotsFit, heard, EachHeard, none, more, Serves, here, later}
+use Rattle.demands.specs.Calls.{ringIn, headIn, answerOf, leftBy, isRefused, ServesRing, SlotsFit, heard, EachHeard, none, more, Serves, here, later}
 use Rattle.demands.specs.FourTurns.{SameHead, FourTurns, FourTurnsByHead}
 use Rattle.demands.proofs.Turns.{pickIn, servedIn, workIn, turn-cases, marker-below, served-heard}
 use Rattle.demands.proofs.Works.{full-slot-stays}
@@ -136,15 +136,15 @@ module _ (q : ℕ) (b : List ℕ) (k : ℕ) where
         go : ((i : ℕ) (d : Device) → Waiting i d → EachHeard (λ call. SameHead b k (ringIn call q)) limit d calls
             → i < heard limit d calls → Serves limit q k d calls)
             → Step j d (turnOf limit d call) → Serves limit q k d (call ∷ calls)
-        go further (refused r kept) = later (further j (deviceOf limit d call) (rw kept w) each (omega (arith, rw r at enough)))
+        go further (refused r kept) = later (further j (leftBy limit d call) (rw kept w) each (omega (arith, rw r at enough)))
         go further (serves s) = here (w .cursor) s
         go further (nearer i r less w′) =
-            let left : j < 1 + heard limit (deviceOf limit d call) calls = rw r at enough in
-            later (further i (deviceOf limit d call) w′ each (omega arith))
+            let left : j < 1 + heard limit (leftBy limit d call) calls = rw r at enough in
+            later (further i (leftBy limit d call) w′ each (omega arith))
 
 -- a refused call leaves the device, and another finds the marker among the rings
 refused-or-marked : (limit : ℕ) (d : Device) (call : Call)
-    → ((isRefused (answerOf limit d call) ≡ true) × (deviceOf limit d call ≡ d)) ⊎ (d .marker < 4)
+    → ((isRefused (answerOf limit d call) ≡ true) × (leftBy limit d call ≡ d)) ⊎ (d .marker < 4)
 unfolding unchanged isRefused
 refused-or-marked limit d call =
     turn-cases limit d call (λ a. ((isRefused (a .turned .answer) ≡ true) × (a .turned .device ≡ d)) ⊎ (d .marker < 4))
@@ -161,7 +161,7 @@ waits limit q b k four (call ∷ calls) d fit at ready (more same each) enough =
     ⊎-elim
     (λ r.
     later
-    (waits limit q b k four calls (deviceOf limit d call) (rw (r .1) fit) (rw (r .1) at) (rw (r .1) ready) each
+    (waits limit q b k four calls (leftBy limit d call) (rw (r .1) fit) (rw (r .1) at) (rw (r .1) ready) each
     (omega (arith, rw (r .0) at enough))))
     (λ marked.
     let away = distance (d .marker) q marked four in

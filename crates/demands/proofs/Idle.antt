@@ -25,7 +25,7 @@ use Rattle.device.specs.Ready.{readyWhere, readyAt, pickOf}
 use Rattle.device.specs.Turn.{Call, emitted, unchanged, deviceAfter, finished, reportOf, servedOf, verdictOn}
 use Rattle.device.specs.Left.{Shaped, sumOf}
 use Rattle.device.proofs.Verdicts.{each-of-four, steady}
-use Rattle.demands.specs.Calls.{ringIn, headIn, answerOf, deviceOf, isRefused, EachHeard, none, more}
+use Rattle.demands.specs.Calls.{ringIn, headIn, answerOf, leftBy, isRefused, EachHeard, none, more}
 use Rattle.demands.specs.Bounded.{Lends, served, taken}
 use Rattle.demands.specs.Idle.{placeOf, nth, isEmitting, emitsIn, countOf, oneMore, Order, nothing, start, lastOf, IdleIsDone}
 use Rattle.demands.proofs.Turns.{pickIn, servedIn, workIn, turn-cases, marker-below, served-heard, picked-servable}
@@ -160,7 +160,7 @@ module _ (limit : ℕ) (R : ℕ → List ℕ) where
         go false e = rw (more-other t r q (eqb-false q r e), e) (omega arith)
 
   turn-took : (d : Device) (t : ℕ → ℕ) → Took R d t → (call : Call) → (isRefused (answerOf limit d call) ≡ false → Lends R call)
-      → (u : ℕ → ℕ) × Took R (deviceOf limit d call) u × ((q : ℕ) → u q ≡ t q + served (answerOf limit d call) q)
+      → (u : ℕ → ℕ) × Took R (leftBy limit d call) u × ((q : ℕ) → u q ≡ t q + served (answerOf limit d call) q)
   unfolding unchanged served
   turn-took d t took call =
       turn-cases limit d call
@@ -178,7 +178,7 @@ module _ (limit : ℕ) (R : ℕ → List ℕ) where
   run-took [] d t took none = (t, took, λ q. omega arith)
   run-took (call ∷ calls) d t took (more lends each) =
       let first = turn-took d t took call lends in
-      let rest = run-took calls (deviceOf limit d call) (first .0) (first .1) each in
+      let rest = run-took calls (leftBy limit d call) (first .0) (first .1) each in
       (rest .0, rest .1, λ q. omega (arith, first .2 q, rest .2 q))
 
 zeros : (k n : ℕ) → _≡_ {A = ℕ} (getD (replicate k 0) n 0) 0

@@ -26,7 +26,7 @@ use Rattle.device.specs.Turn.{fenceOf, ringAfter, deviceAfter, finished, served
 use Rattle.device.specs.Left.{Shaped}
 use Rattle.device.proofs.Verdicts.{found}
 use Rattle.device.proofs.BytesLeft.{served-ring, other-ring}
-use Rattle.demands.specs.Calls.{ringIn, headIn, deviceOf, SlotsFit}
+use Rattle.demands.specs.Calls.{ringIn, headIn, leftBy, SlotsFit}
 use Rattle.demands.specs.Reports.{Signals, Interrupts, Reads, SetsFrame, Reported, TurnReports}
 use Rattle.demands.proofs.Turns.{workIn, was-served, marker-below}
 use Rattle.demands.proofs.Works.{full-slot-stays, frame-set, frame-kept}
@@ -140,10 +140,10 @@ turn-reports limit d call report shaped fit e =
       ring = picked .0;
       ready = picked .1;
       reported =
-          rw (deviceOf, was .after)
+          rw (leftBy, was .after)
           (subst (λ (r : Report). Reported d q c r (deviceAfter d q c p)) (was .told)
           (reported d q c p shaped fit (picked .0) (full-slot-stays _ _ _ _ _ _ _ _) (emits-in-range _ _ _ _ _ _ _ _)
           (frame-set _ _ _ _ _ _ _ _) (frame-kept _ _ _ _ _ _ _ _)));
-      shaped = rw (deviceOf, was .after) (after-shaped d q c p shaped);
-      slots = rw (deviceOf, was .after) (after-fits d q c p fit);
+      shaped = rw (leftBy, was .after) (after-shaped d q c p shaped);
+      slots = rw (leftBy, was .after) (after-fits d q c p fit);
     }

@@ -12,7 +12,7 @@ use Rattle.device.specs.declared.turn.Answer.the-variants.{Refused, Idle, Serve
 use Rattle.device.specs.State.{freshDevice}
 use Rattle.device.specs.Turn.{Call}
 use Rattle.device.specs.Left.{Shaped, leftOf, sumOf}
-use Rattle.demands.specs.Calls.{ringIn, answerOf, deviceOf, heard, EachHeard}
+use Rattle.demands.specs.Calls.{ringIn, answerOf, leftBy, heard, EachHeard}
 
 -- the call lends R q as the bytes of each ring q
 abbrev pub Lends : (ℕ → List ℕ) → Call → Type 0
@@ -27,7 +27,7 @@ served (Served report) q = either (eqb q (report .ring)) 1 0
 -- how many commands of ring q the calls take
 unfoldable pub taken : ℕ → Device → List Call → ℕ → ℕ
 taken limit d [] q = 0
-taken limit d (call ∷ calls) q = served (answerOf limit d call) q + taken limit (deviceOf limit d call) calls q
+taken limit d (call ∷ calls) q = served (answerOf limit d call) q + taken limit (leftBy limit d call) calls q
 
 -- the bytes that are left of rings whose bytes are R
 abbrev pub leftIn : (ℕ → List ℕ) → Device → ℕ
@@ -36,7 +36,7 @@ leftIn R d = sumOf 4 (λ q. leftOf d q (R q))
 -- one of the calls answers idle
 pub data SaysIdle (limit : ℕ) : Device → List Call → Type 0 where
   here : {d : Device} {call : Call} {calls : List Call} → answerOf limit d call ≡ Idle → SaysIdle limit d (call ∷ calls)
-  later : {d : Device} {call : Call} {calls : List Call} → SaysIdle limit (deviceOf limit d call) calls → SaysIdle limit d (call ∷ calls)
+  later : {d : Device} {call : Call} {calls : List Call} → SaysIdle limit (leftBy limit d call) calls → SaysIdle limit d (call ∷ calls)
 
 -- the calls that serve a ring are no more than a sixteenth of the bytes left
 unfoldable pub TurnsBounded : Type 0

@@ -22,12 +22,13 @@ ringIn call q = bytesOfRing q (call .ring0) (call .ring1) (call .ring2) (call .r
 abbrev pub headIn : Device → Call → ℕ → Command
 headIn d call q = commandAt (ringIn call q) (ringOf d q .cursor)
 
--- a call's answer, and the device that it leaves
+-- a call's answer
 abbrev pub answerOf : ℕ → Device → Call → Answer
 answerOf limit d call = turnOf limit d call .turned .answer
 
-abbrev pub deviceOf : ℕ → Device → Call → Device
-deviceOf limit d call = turnOf limit d call .turned .device
+-- the device that a call leaves
+abbrev pub leftBy : ℕ → Device → Call → Device
+leftBy limit d call = turnOf limit d call .turned .device
 
 unfoldable pub isRefused : Answer → Bool
 isRefused (Refused why) = true
@@ -47,17 +48,17 @@ SlotsFit d = (n : ℕ) → slotOf d n < 2 ^ 32
 -- how many of the calls are not refused
 unfoldable pub heard : ℕ → Device → List Call → ℕ
 heard limit d [] = 0
-heard limit d (call ∷ calls) = either (isRefused (answerOf limit d call)) 0 1 + heard limit (deviceOf limit d call) calls
+heard limit d (call ∷ calls) = either (isRefused (answerOf limit d call)) 0 1 + heard limit (leftBy limit d call) calls
 
 -- each call that is not refused is so
 pub data EachHeard (P : Call → Type 0) (limit : ℕ) : Device → List Call → Type 0 where
   none : {d : Device} → EachHeard P limit d []
   more : {d : Device} {call : Call} {calls : List Call} → (isRefused (answerOf limit d call) ≡ false → P call)
-      → EachHeard P limit (deviceOf limit d call) calls → EachHeard P limit d (call ∷ calls)
+      → EachHeard P limit (leftBy limit d call) calls → EachHeard P limit d (call ∷ calls)
 
 -- one of the calls serves ring q while its cursor is this
 pub data Serves (limit q cursor : ℕ) : Device → List Call → Type 0 where
   here : {d : Device} {call : Call} {calls : List Call} → ringOf d q .cursor ≡ cursor → ServesRing q (answerOf limit d call)
       → Serves limit q cursor d (call ∷ calls)
-  later : {d : Device} {call : Call} {calls : List Call} → Serves limit q cursor (deviceOf limit d call) calls
+  later : {d : Device} {call : Call} {calls : List Call} → Serves limit q cursor (leftBy limit d call) calls
       → Serves limit q cursor d (call ∷ calls)

@@ -17,7 +17,7 @@ use Rattle.device.specs.State.{freshDevice}
 use Rattle.device.specs.Ready.{readyWith}
 use Rattle.device.specs.Turn.{Call}
 use Rattle.device.specs.Left.{sumOf}
-use Rattle.demands.specs.Calls.{answerOf, deviceOf, EachHeard}
+use Rattle.demands.specs.Calls.{answerOf, leftBy, EachHeard}
 use Rattle.demands.specs.Bounded.{Lends, taken}
 
 -- where the n-th command of a ring begins
@@ -56,7 +56,7 @@ pub data Order (R : ℕ → List ℕ) : (ℕ → ℕ) → Type 0 where
 -- the device that the last of the calls leaves
 unfoldable pub lastOf : ℕ → Device → List Call → Device
 lastOf limit d [] = d
-lastOf limit d (call ∷ calls) = lastOf limit (deviceOf limit d call) calls
+lastOf limit d (call ∷ calls) = lastOf limit (leftBy limit d call) calls
 
 -- after calls from fresh, one more call answers idle: then no order has started more of a ring than the device took
 unfoldable pub IdleIsDone : Type 0

@@ -16,7 +16,7 @@ use Rattle.device.specs.State.{ringOf, slotOf}
 use Rattle.device.specs.Ready.{readyAt, nextRing}
 use Rattle.device.specs.Turn.{Call}
 use Rattle.device.specs.Left.{Shaped}
-use Rattle.demands.specs.Calls.{ringIn, headIn, answerOf, deviceOf, SlotsFit}
+use Rattle.demands.specs.Calls.{ringIn, headIn, answerOf, leftBy, SlotsFit}
 
 -- the command signals: its emit bit is set and the outcome is 0 or 6 to 14
 abbrev pub Signals : Command → Outcome → Type 0
@@ -64,10 +64,10 @@ pub record Reported (d : Device) (q : ℕ) (c : Command) (report : Report) (afte
 pub record Serving (limit : ℕ) (d : Device) (call : Call) (report : Report) : Type 0 where
   pub ring : report .ring < 4
   pub ready : readyAt d (report .ring) (ringIn call (report .ring)) ≡ true
-  pub reported : Reported d (report .ring) (headIn d call (report .ring)) report (deviceOf limit d call)
+  pub reported : Reported d (report .ring) (headIn d call (report .ring)) report (leftBy limit d call)
   -- and the device that it leaves has the form of every device
-  pub shaped : Shaped (deviceOf limit d call)
-  pub slots : SlotsFit (deviceOf limit d call)
+  pub shaped : Shaped (leftBy limit d call)
+  pub slots : SlotsFit (leftBy limit d call)
 
 unfoldable pub TurnReports : Type 0
 TurnReports =

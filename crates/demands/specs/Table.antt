@@ -22,7 +22,7 @@ use Rattle.command.specs.Work.{ranOutcome}
 use Rattle.device.specs.declared.state.Device.{Device}
 use Rattle.device.specs.declared.turn.Answer.{Answer}
 use Rattle.device.specs.declared.turn.Answer.the-variants.{Refused, Idle, Served}
-use Rattle.device.specs.State.{emptyWindow, freshRing}
+use Rattle.device.specs.State.{emptyWindow, freshRing, deviceOf}
 use Rattle.device.specs.Answer.{Values, valuesOf}
 use Rattle.device.specs.Turn.{Call, callOf, turnOf}
 
@@ -35,12 +35,11 @@ header opcode flags rdst len arg0 arg1 arg2 = opcode ∷ flags ∷ rdst ∷ len 
 
 -- a device whose ring 0 has a window of n bytes and a frame of stride 16, its marker at m
 abbrev pub framed : ℕ → ℕ → Device
-framed n m = record {
-  rings = record { window = record { start = 0; length = n }; cursor = 0; frame = Held 0 16 0 }
-      ∷ freshRing emptyWindow ∷ freshRing emptyWindow ∷ freshRing emptyWindow ∷ [];
-  slots = replicate 64 0;
-  marker = m;
-}
+framed n m =
+    deviceOf
+    (record { window = record { start = 0; length = n }; cursor = 0; frame = Held 0 16 0 }
+    ∷ freshRing emptyWindow ∷ freshRing emptyWindow ∷ freshRing emptyWindow ∷ [])
+    (replicate 64 0) m
 
 -- a call with these rings, n zero bytes of memory and no kernels
 abbrev pub lent : ℕ → List ℕ → List ℕ → List ℕ → List ℕ → Call
