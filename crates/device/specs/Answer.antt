@@ -1,4 +1,5 @@
--- What an answer stands for: its number and the values that it reports.
+-- What an answer stands for: the values that a turn reports, and the number of a making. A refused turn's number is
+-- its refusal's, `refusalNumber`.
 use Prim.Native.Nat.{ℕ}
 use mathlib.Core.Bool.{Bool, false}
 use Rattle.command.specs.Outcome.{outcomeNumber}

@@ -4,7 +4,6 @@ use mathlib.Core.Path.{_≡_}
 use mathlib.Core.List.{List, [], _++_}
 use lib.ListN.{length, replicate}
 use Rattle.kernel.specs.Run.{stepLimit}
-use Rattle.command.specs.Outcome.{outcomeNumber}
 use Rattle.device.specs.declared.state.Device.{Device}
 use Rattle.device.specs.declared.state.Window.{Window}
 use Rattle.device.specs.declared.fresh.Fresh.{Fresh}
@@ -14,6 +13,7 @@ use Rattle.device.specs.declared.turn.Answer.{Answer}
 use Rattle.device.specs.declared.turn.Answer.the-variants.{Served, Idle, Refused as RefusedTurn}
 use Rattle.device.specs.declared.turn.Report.{Report}
 use Rattle.device.specs.Refusal.{refusalNumber}
+use Rattle.device.specs.Answer.{valuesOf, makingNumber}
 use Rattle.device.specs.Fresh.{freshOf}
 use Rattle.device.specs.Turn.{Call, callOf, After, turnOf}
 use Rattle.device.specs.Left.{Shaped, bytesLeft}
@@ -28,7 +28,8 @@ use Rattle.job.specs.Line.{turnLine, idleLine, refusedLine}
 -- the line of a served turn: turn, ring, outcome, fence, words read
 abbrev pub servedLine : ℕ → Report → List ℕ
 servedLine turn report =
-    turnLine turn (report .ring) (outcomeNumber (report .outcome)) (report .fence) (report .words)
+    let v = valuesOf (Served report) in
+    turnLine turn (v .ring) (v .outcome) (v .fence) (v .words)
 
 -- the lines from an answer on: a served turn's line and then the rest, or the last line; `turns` were taken before
 unfoldable pub linesOf : ℕ → Answer → List ℕ → List ℕ
@@ -80,7 +81,7 @@ freshFor input job =
 -- a fresh device takes all its turns; if it cannot be made, the number of that refusal, 101, is printed
 unfoldable pub playedOn : Making → Device → Call → List ℕ
 playedOn Made d call = allLines 0 d call
-playedOn (RefusedFresh why) d call = refusedLine (refusalNumber why)
+playedOn (RefusedFresh why) d call = refusedLine (makingNumber (RefusedFresh why))
 
 -- what an accepted job prints
 unfoldable pub jobText : List ℕ → Job → List ℕ

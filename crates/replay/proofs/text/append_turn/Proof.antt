@@ -1,4 +1,5 @@
 -- `replay::text::append_turn` meets its contract. Assumes nothing.
+use Rattle.device.specs.Answer.{valuesOf}
 use Rattle.replay.proofs.TextLaws.{line-appended}
 use borrow.Author.Needs.{needs}
 use Rattle.replay.proofs.text.append_turn.Statement.{statement}
@@ -17,6 +18,7 @@ same-length : tie.Need-same-length
 same-length c = search needs
 
 returns : tie.Need-returns
+unfolding valuesOf
 returns c =
     let a = c .before .before .append-line .ensures in
     (line-appended (rw (c .before .before .before .before .before .before .number .ensures) at (c .before .before .before .before .before .spell-turn .ensures)) (a .0), a .1)
