@@ -6,7 +6,7 @@ use mathlib.Core.List.{List, [], _∷_, _++_}
 use Prim.Native.Nat.{ℕ, _^_, _<_}
 use native.Mathlib.Omega.{arith}
 use lib.Dec.{eqb, lit<}
-use lib.ListN.{length, length-set}
+use lib.ListN.{length}
 use borrow.Author.Tests.{eqb-true, eqb-false}
 use Rattle.memory.proofs.Places.{word-fits}
 use Rattle.command.specs.declared.header.Command.{Command}
@@ -27,7 +27,7 @@ use Rattle.device.specs.declared.refusal.Verdict.{Verdict}
 use Rattle.device.specs.declared.refusal.Verdict.the-variants.{Sound, Refused}
 use Rattle.device.specs.declared.ready.Picked.{Picked}
 use Rattle.device.specs.declared.ready.Picked.the-variants.{Ring as RingOf, Nobody}
-use Rattle.device.specs.State.{emptyWindow, freshDevice, ringOf, withRing, withSlot, withMarker}
+use Rattle.device.specs.State.{Shaped, emptyWindow, freshDevice, ringOf, withRing, withSlot, withMarker}
 use Rattle.device.specs.Refusal.{memoryFits}
 use Rattle.device.specs.Ready.{bytesOfRing, pickOf}
 use Rattle.device.specs.Fresh.{freshOf}
@@ -35,7 +35,8 @@ use Rattle.device.specs.Turn.{Call, emitted, emitTo, unchanged, ringAfter, devi
 use Rattle.device.proofs.Seeks.{next-below}
 use Rattle.device.proofs.Verdicts.{each-of-four, servable}
 use Rattle.device.proofs.Wholes.{whole-inside}
-use Rattle.device.proofs.BytesLeft.{rings-after, served-ring, other-ring}
+use Rattle.device.proofs.BytesLeft.{served-ring, other-ring}
+use Rattle.device.proofs.Shapes.{after-shaped, fresh-shaped}
 use Rattle.capi.specs.Image.{heldOf, baseOf, formatOf, ringWords, ringsWords, wordsOf, windowAt}
 use Rattle.capi.specs.Inverse.{Formed}
 use Rattle.capi.specs.Follows.{OfBytes, RingsOfBytes, FreshForms, TurnForms}
@@ -59,12 +60,11 @@ frame-in r h = record { held = h .at 3; base = h .at 4; stride = h .at 5; format
 
 -- a device whose rings, slots and marker fit
 module _ (d : Device) where
-  formed : length (d .rings) ≡ 4 → length (d .slots) ≡ 64 → ((q : ℕ) → q < 4 → Fits (ringWords (ringOf d q))) → Fits (d .slots) → d .marker < 2 ^ 32
+  formed : Shaped d → ((q : ℕ) → q < 4 → Fits (ringWords (ringOf d q))) → Fits (d .slots) → d .marker < 2 ^ 32
       → Formed d
   unfolding wordsOf ringsWords
-  formed four sixty-four rings slots marker = record {
-    four = four;
-    sixty-four = sixty-four;
+  formed shaped rings slots marker = record {
+    shaped = shaped;
     fit = fits-both (ringsWords d ++ d .slots)
         (fits-both (ringsWords d)
         (fits-both (ringWords (ringOf d 0) ++ ringWords (ringOf d 1) ++ ringWords (ringOf d 2))
@@ -113,12 +113,11 @@ module _ (ring : List ℕ) (bytes : OfBytes ring) (cursor slot : ℕ) (window : 
       (λ fine. work-has c ring window frame pack pipe limit Held (λ e. h) (λ e. h) (λ e. h) (λ e. h) (λ e. h) (λ e. h) (λ e. held-fits) h)
       (λ faulty. h)
 
--- an emit leaves 64 numbers that fit
-emit-slots : (b : Bool) (d : Device) (n slot : ℕ) → length (d .slots) ≡ 64 → Fits (d .slots)
-    → (length (emitTo b d n slot .slots) ≡ 64) × Fits (emitTo b d n slot .slots)
+-- an emit leaves numbers that fit
+emit-fits : (b : Bool) (d : Device) (n slot : ℕ) → Fits (d .slots) → Fits (emitTo b d n slot .slots)
 unfolding emitTo either withSlot
-emit-slots true d n slot long h = (simp length-set long, fits-set (d .slots) n (emitted slot) h (omega arith))
-emit-slots false d n slot long h = (long, h)
+emit-fits true d n slot h = fits-set (d .slots) n (emitted slot) h (omega arith)
+emit-fits false d n slot h = h
 
 -- so a served command leaves a formed device
 module _ (d : Device) (q : ℕ) (c : Command) (p : Performed) (is : Formed d) (four : q < 4) (cursor : ringAfter (ringOf d q) c (p .frame) .cursor < 2 ^ 32)
@@ -133,14 +132,14 @@ module _ (d : Device) (q : ℕ) (c : Command) (p : Performed) (is : Formed d) (f
   ring-after j h = go (eqb j q) refl
     where
       go : (b : Bool) → eqb j q ≡ b → Fits (ringWords (ringOf (deviceAfter d q c p) j))
-      go true e = rw (eqb-true j q e, served-ring d q c p (omega (arith, is .four))) own-ring
+      go true e = rw (eqb-true j q e, served-ring d q c p (omega (arith, is .shaped .rings))) own-ring
       go false e = rw (other-ring d q c p j (eqb-false j q e)) (rings-in d is j h)
 
   after-formed : Formed (deviceAfter d q c p)
   unfolding deviceAfter withMarker withRing
   after-formed =
-      let slots = emit-slots (emits c (p .outcome)) (withRing d q (ringAfter (ringOf d q) c (p .frame))) (c .rdst) _ (is .sixty-four) (slots-in d is) in
-      formed (deviceAfter d q c p) (rw (rings-after d q c p) (simp length-set (is .four))) (slots .0) ring-after (slots .1)
+      formed (deviceAfter d q c p) (after-shaped d q c p (is .shaped)) ring-after
+      (emit-fits (emits c (p .outcome)) (withRing d q (ringAfter (ringOf d q) c (p .frame))) (c .rdst) _ (slots-in d is))
       (omega (arith, next-below q four))
 
 module _ (limit : ℕ) (d : Device) (call : Call) (is : Formed d) (bytes : RingsOfBytes call) where
@@ -175,7 +174,7 @@ fresh-ring w h = ring-fits _ (h .0) (h .1) (omega arith) (record { held = omega 
 fresh-formed : (w0 w1 w2 w3 : Window) → WindowFits w0 → WindowFits w1 → WindowFits w2 → WindowFits w3 → Formed (freshDevice w0 w1 w2 w3)
 unfolding freshDevice ringOf
 fresh-formed w0 w1 w2 w3 h0 h1 h2 h3 =
-    formed (freshDevice w0 w1 w2 w3) refl refl
+    formed (freshDevice w0 w1 w2 w3) (fresh-shaped w0 w1 w2 w3)
     (each-of-four (λ q. Fits (ringWords (ringOf (freshDevice w0 w1 w2 w3) q))) (fresh-ring w0 h0) (fresh-ring w1 h1) (fresh-ring w2 h2) (fresh-ring w3 h3))
     (fits-zeros 64) (omega arith)
 

@@ -48,10 +48,10 @@ four x (a ∷ b ∷ c ∷ d ∷ e ∷ rs) h = absurd (omega arith)
 pub decode-encode : DecodeEncode
 unfolding decode encode wordsOf ringsWords ringWords ringOf
 decode-encode d formed =
-    let size = words-length d (formed .sixty-four) in
+    let size = words-length d (formed .shaped .slots) in
     let row = words-in-bytes (wordsOf d) (formed .fit) in
-    let slots : wordsIn (encode d) 28 64 ≡ d .slots = row 28 64 (omega arith) ∙ take-at (d .slots) (d .marker ∷ []) 64 (formed .sixty-four) in
-    let marker : wordIn (encode d) 92 ≡ d .marker = word-in-bytes (wordsOf d) 92 (omega arith) (formed .fit 92) ∙ getD-at (d .slots) (d .marker) [] 0 64 (formed .sixty-four) in
+    let slots : wordsIn (encode d) 28 64 ≡ d .slots = row 28 64 (omega arith) ∙ take-at (d .slots) (d .marker ∷ []) 64 (formed .shaped .slots) in
+    let marker : wordIn (encode d) 92 ≡ d .marker = word-in-bytes (wordsOf d) 92 (omega arith) (formed .fit 92) ∙ getD-at (d .slots) (d .marker) [] 0 64 (formed .shaped .slots) in
     rw (
       ring-back (encode d) 0 (ringOf d 0) (row 0 7 (omega arith)),
       ring-back (encode d) 7 (ringOf d 1) (row 7 7 (omega arith)),
@@ -59,7 +59,7 @@ decode-encode d formed =
       ring-back (encode d) 21 (ringOf d 3) (row 21 7 (omega arith)),
       slots,
       marker,
-      four (freshRing emptyWindow) (d .rings) (formed .four),
+      four (freshRing emptyWindow) (d .rings) (formed .shaped .rings),
     )
 
 frame-words : {h b s f : ℕ} → NormalFrame h b s f

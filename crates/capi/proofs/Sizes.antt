@@ -18,4 +18,4 @@ words-length d full = simp length-append (omega (arith, rings-length d))
 
 pub encode-length : EncodeLength
 unfolding encode
-encode-length d formed = omega (arith, bytes-length (wordsOf d), words-length d (formed .sixty-four))
+encode-length d formed = omega (arith, bytes-length (wordsOf d), words-length d (formed .shaped .slots))

@@ -4,12 +4,12 @@ use mathlib.Core.Path.{_≡_}
 use mathlib.Core.List.{List}
 use lib.ListN.{length, getD}
 use Rattle.device.specs.declared.state.Device.{Device}
+use Rattle.device.specs.State.{Shaped}
 use Rattle.capi.specs.Image.{wordIn, wordsOf, encode, decode}
 
 -- what every device has by its type
 pub record Formed (d : Device) : Type 0 where
-  pub four : length (d .rings) ≡ 4
-  pub sixty-four : length (d .slots) ≡ 64
+  pub shaped : Shaped d
   pub fit : (k : ℕ) → getD (wordsOf d) k 0 < 2 ^ 32
 
 -- a frame's four words are in normal form: 1 and any three words, or four zeros

@@ -13,15 +13,15 @@ use Rattle.device.specs.declared.state.Device.{Device}
 use Rattle.device.specs.declared.turn.Report.{Report}
 use Rattle.device.specs.declared.turn.Answer.{Answer}
 use Rattle.device.specs.declared.turn.Answer.the-variants.{Refused, Idle, Served}
-use Rattle.device.specs.State.{freshDevice, ringOf}
-use Rattle.device.specs.Turn.{Call, unchanged, finished, servedOf}
-use Rattle.device.specs.Left.{Shaped, leftOf, sumOf, bytesLeft}
+use Rattle.device.specs.State.{Shaped, freshDevice, ringOf}
+use Rattle.device.specs.Turn.{Call}
+use Rattle.device.specs.Left.{leftOf, sumOf, bytesLeft}
 use Rattle.device.proofs.Verdicts.{each-of-four}
 use Rattle.device.proofs.BytesLeft.{served-takes}
+use Rattle.device.proofs.Shapes.{turn-shaped, fresh-shaped}
 use Rattle.demands.specs.Calls.{answerOf, leftBy, isRefused, heard, none, more}
 use Rattle.demands.specs.Bounded.{Lends, served, taken, leftIn, SaysIdle, here, later, TurnsBounded, IdleInTime, FreshIdleInTime}
-use Rattle.demands.proofs.Turns.{turn-cases, was-served, picked-servable}
-use Rattle.demands.proofs.Devices.{after-shaped}
+use Rattle.demands.proofs.Turns.{was-served, picked-servable}
 use Rattle.demands.proofs.Keeps.{keeps}
 use Rattle.demands.proofs.Sums.{sum-both}
 
@@ -29,12 +29,6 @@ use Rattle.demands.proofs.Sums.{sum-both}
 lent-left : (R : ℕ → List ℕ) (d : Device) (call : Call) → Lends R call → bytesLeft d call ≡ leftIn R d
 unfolding bytesLeft sumOf
 lent-left R d call lends = rw (lends 0 (lit< tt), lends 1 (lit< tt), lends 2 (lit< tt), lends 3 (lit< tt))
-
--- a turn leaves the form of a device
-turn-shaped : (limit : ℕ) (d : Device) (call : Call) → Shaped d → Shaped (leftBy limit d call)
-unfolding unchanged servedOf finished
-turn-shaped limit d call shaped =
-    turn-cases limit d call (λ a. Shaped (a .turned .device)) (λ why v. shaped) (λ v p. shaped) (λ r v p. after-shaped d r _ _ shaped)
 
 -- a served turn takes one command
 one-served : (report : Report) → report .ring < 4 → sumOf 4 (served (Served report)) ≡ 1
@@ -98,4 +92,4 @@ idle-in-time limit d R (call ∷ calls) shaped (more lends each) enough =
 pub fresh-idle-in-time : FreshIdleInTime
 unfolding FreshIdleInTime IdleInTime freshDevice ringOf leftOf sumOf
 fresh-idle-in-time limit w0 w1 w2 w3 R calls each enough =
-    idle-in-time limit (freshDevice w0 w1 w2 w3) R calls (record { rings = refl; slots = refl }) each (omega (arith, enough))
+    idle-in-time limit (freshDevice w0 w1 w2 w3) R calls (fresh-shaped w0 w1 w2 w3) each (omega (arith, enough))

@@ -1,12 +1,12 @@
 -- What a served command changes in the device.
 -- Assumes nothing.
-use mathlib.Core.Path.{_≡_, refl, _∙_}
+use mathlib.Core.Path.{_≡_, refl}
 use mathlib.Core.Bool.{Bool, true, false}
 use mathlib.Core.List.{List, [], _∷_}
 use Prim.Native.Nat.{ℕ, zero, suc, _^_, _≤_, _<_}
 use native.Mathlib.Nat.{le-refl}
 use native.Mathlib.Omega.{arith}
-use lib.ListN.{length, getD, set, length-set}
+use lib.ListN.{getD, set}
 use lib.Seq.{getD-set-other}
 use Rattle.command.specs.declared.header.Command.{Command}
 use Rattle.command.specs.declared.work.Performed.{Performed}
@@ -17,7 +17,6 @@ use Rattle.device.specs.declared.state.Device.{Device}
 use Rattle.device.specs.State.{emptyWindow, freshRing, ringOf, slotOf, withRing, withSlot, withMarker}
 use Rattle.device.specs.Ready.{nextRing}
 use Rattle.device.specs.Turn.{emitted, emitTo, ringAfter, deviceAfter}
-use Rattle.device.specs.Left.{Shaped}
 use Rattle.device.proofs.BytesLeft.{rings-after}
 use Rattle.demands.specs.Calls.{SlotsFit}
 
@@ -97,13 +96,3 @@ module _ (d : Device) (q : ℕ) (c : Command) (p : Performed) where
       go : (b : Bool) → emits c (p .outcome) ≡ b → getD (deviceAfter d q c p .slots) n 0 ≡ getD (d .slots) n 0
       go true e = rw (after-emit e) (getD-set-other (d .slots) (c .rdst) n _ 0 other)
       go false e = rw (after-no-emit e)
-
-  pub after-shaped : Shaped d → Shaped (deviceAfter d q c p)
-  after-shaped shaped = record {
-    rings = rw (rings-after d q c p) (simp length-set (shaped .rings));
-    slots = slots-kept (emits c (p .outcome)) refl ∙ shaped .slots;
-  }
-    where
-      slots-kept : (b : Bool) → emits c (p .outcome) ≡ b → length (deviceAfter d q c p .slots) ≡ length (d .slots)
-      slots-kept true e = rw (after-emit e) (simp length-set)
-      slots-kept false e = rw (after-no-emit e)

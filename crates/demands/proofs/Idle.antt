@@ -20,17 +20,18 @@ use Rattle.device.specs.declared.state.Device.{Device}
 use Rattle.device.specs.declared.refusal.Verdict.the-variants.{Sound}
 use Rattle.device.specs.declared.ready.Picked.the-variants.{Ring as RingOf}
 use Rattle.device.specs.declared.turn.Answer.the-variants.{Idle}
-use Rattle.device.specs.State.{freshDevice, ringOf, slotOf}
+use Rattle.device.specs.State.{Shaped, freshDevice, ringOf, slotOf}
 use Rattle.device.specs.Ready.{readyWhere, readyAt, pickOf}
 use Rattle.device.specs.Turn.{Call, emitted, unchanged, deviceAfter, finished, reportOf, servedOf, verdictOn}
-use Rattle.device.specs.Left.{Shaped, sumOf}
+use Rattle.device.specs.Left.{sumOf}
 use Rattle.device.proofs.Verdicts.{each-of-four, steady}
+use Rattle.device.proofs.Shapes.{after-shaped, fresh-shaped}
 use Rattle.demands.specs.Calls.{ringIn, headIn, answerOf, leftBy, isRefused, EachHeard, none, more}
 use Rattle.demands.specs.Bounded.{Lends, served, taken}
 use Rattle.demands.specs.Idle.{placeOf, nth, isEmitting, emitsIn, countOf, oneMore, Order, nothing, start, lastOf, IdleIsDone}
 use Rattle.demands.proofs.Turns.{pickIn, servedIn, workIn, turn-cases, marker-below, served-heard, picked-servable}
 use Rattle.demands.proofs.Works.{emits-when-sound}
-use Rattle.demands.proofs.Devices.{after-emit, after-no-emit, after-other-slot, after-shaped}
+use Rattle.demands.proofs.Devices.{after-emit, after-no-emit, after-other-slot}
 use Rattle.demands.proofs.Walks.{seek-reaches, distance}
 use Rattle.demands.proofs.FourTurns.{ready-rises}
 use Rattle.demands.proofs.Served.{served-cursor, served-others, served-is}
@@ -190,7 +191,7 @@ zeros (suc k) (suc n) = zeros k n
 fresh-took : (R : ℕ → List ℕ) (w0 w1 w2 w3 : Window) → Took R (freshDevice w0 w1 w2 w3) (λ q. 0)
 unfolding freshDevice slotOf ringOf placeOf emitsIn sumOf
 fresh-took R w0 w1 w2 w3 = record {
-  shaped = record { rings = refl; slots = refl };
+  shaped = fresh-shaped w0 w1 w2 w3;
   cursors = each-of-four (λ q. ringOf (freshDevice w0 w1 w2 w3) q .cursor ≡ 0) refl refl refl refl;
   slots = zeros 64;
 }

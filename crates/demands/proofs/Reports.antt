@@ -20,17 +20,17 @@ use Rattle.command.specs.Work.{heldBy}
 use Rattle.command.proofs.Choices.{both-left, both-right}
 use Rattle.device.specs.declared.state.Device.{Device}
 use Rattle.device.specs.declared.turn.Report.{Report}
-use Rattle.device.specs.State.{ringOf, slotOf}
+use Rattle.device.specs.State.{Shaped, ringOf, slotOf}
 use Rattle.device.specs.Ready.{readyAt, pickOf}
 use Rattle.device.specs.Turn.{fenceOf, ringAfter, deviceAfter, finished, servedOf}
-use Rattle.device.specs.Left.{Shaped}
 use Rattle.device.proofs.Verdicts.{found}
 use Rattle.device.proofs.BytesLeft.{served-ring, other-ring}
+use Rattle.device.proofs.Shapes.{after-shaped}
 use Rattle.demands.specs.Calls.{ringIn, headIn, leftBy, SlotsFit}
 use Rattle.demands.specs.Reports.{Signals, Interrupts, Reads, SetsFrame, Reported, TurnReports}
 use Rattle.demands.proofs.Turns.{workIn, was-served, marker-below}
 use Rattle.demands.proofs.Works.{full-slot-stays, frame-set, frame-kept}
-use Rattle.demands.proofs.Devices.{after-marker, after-fits, after-emit, after-no-emit, after-other-slot, after-shaped}
+use Rattle.demands.proofs.Devices.{after-marker, after-fits, after-emit, after-no-emit, after-other-slot}
 use Rattle.demands.proofs.Emitting.{emits-in-range}
 
 both : (a b : Bool) → a ≡ true → b ≡ true → (a && b) ≡ true

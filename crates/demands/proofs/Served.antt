@@ -8,9 +8,8 @@ use Rattle.command.specs.Choice.{either}
 use Rattle.device.specs.declared.state.Device.{Device}
 use Rattle.device.specs.declared.refusal.Verdict.the-variants.{Sound}
 use Rattle.device.specs.declared.ready.Picked.the-variants.{Ring as RingOf}
-use Rattle.device.specs.State.{ringOf}
+use Rattle.device.specs.State.{Shaped, ringOf}
 use Rattle.device.specs.Turn.{Call, ringAfter, finished, reportOf, servedOf, verdictOn}
-use Rattle.device.specs.Left.{Shaped}
 use Rattle.device.proofs.BytesLeft.{served-ring, other-ring}
 use Rattle.demands.specs.Calls.{headIn}
 use Rattle.demands.specs.Bounded.{served}

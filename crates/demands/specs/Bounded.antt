@@ -9,9 +9,9 @@ use Rattle.device.specs.declared.state.Window.{Window}
 use Rattle.device.specs.declared.state.Device.{Device}
 use Rattle.device.specs.declared.turn.Answer.{Answer}
 use Rattle.device.specs.declared.turn.Answer.the-variants.{Refused, Idle, Served}
-use Rattle.device.specs.State.{freshDevice}
+use Rattle.device.specs.State.{Shaped, freshDevice}
 use Rattle.device.specs.Turn.{Call}
-use Rattle.device.specs.Left.{Shaped, leftOf, sumOf}
+use Rattle.device.specs.Left.{leftOf, sumOf}
 use Rattle.demands.specs.Calls.{ringIn, answerOf, leftBy, heard, EachHeard}
 
 -- the call lends R q as the bytes of each ring q

@@ -12,10 +12,9 @@ use Rattle.command.specs.Work.{heldBy}
 use Rattle.device.specs.declared.state.Device.{Device}
 use Rattle.device.specs.declared.turn.Report.{Report}
 use Rattle.device.specs.declared.turn.Answer.the-variants.{Served}
-use Rattle.device.specs.State.{ringOf, slotOf}
+use Rattle.device.specs.State.{Shaped, ringOf, slotOf}
 use Rattle.device.specs.Ready.{readyAt, nextRing}
 use Rattle.device.specs.Turn.{Call}
-use Rattle.device.specs.Left.{Shaped}
 use Rattle.demands.specs.Calls.{ringIn, headIn, answerOf, leftBy, SlotsFit}
 
 -- the command signals: its emit bit is set and the outcome is 0 or 6 to 14

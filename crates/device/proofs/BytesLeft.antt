@@ -1,11 +1,11 @@
 -- Each served turn takes at least 16 bytes, so a caller's loop over unchanging rings ends.
 -- Assumes nothing.
-use mathlib.Core.Path.{_≡_, refl, sym, ap, _∙_}
+use mathlib.Core.Path.{_≡_, refl, sym}
 use mathlib.Core.Bool.{Bool, true, false}
 use mathlib.Core.List.{List}
 use Prim.Native.Nat.{ℕ, zero, suc, _+_, _-_, _≤_, _<_}
 use native.Mathlib.Omega.{arith}
-use lib.ListN.{length, getD, set, length-set}
+use lib.ListN.{length, set}
 use lib.Seq.{getD-set-same, getD-set-other}
 use lib.Dec.{eqb}
 use borrow.Author.Tests.{eqb-true, eqb-false}
@@ -14,9 +14,7 @@ use Rattle.command.specs.declared.header.Command.{Command}
 use Rattle.command.specs.declared.work.Performed.{Performed}
 use Rattle.command.specs.Choice.{either}
 use Rattle.command.specs.Header.{commandAt}
-use Rattle.command.specs.Report.{emits}
 use Rattle.command.proofs.Sizes.{size-least}
-use Rattle.device.specs.declared.state.Ring.{Ring}
 use Rattle.device.specs.declared.state.Device.{Device}
 use Rattle.device.specs.declared.refusal.Verdict.{Verdict}
 use Rattle.device.specs.declared.refusal.Verdict.the-variants.{Sound, Refused}
@@ -24,10 +22,10 @@ use Rattle.device.specs.declared.ready.Picked.{Picked}
 use Rattle.device.specs.declared.ready.Picked.the-variants.{Ring as Picks, Nobody}
 use Rattle.device.specs.declared.turn.Report.{Report}
 use Rattle.device.specs.declared.turn.Answer.the-variants.{Served}
-use Rattle.device.specs.State.{ringOf, withRing, withSlot, withMarker}
+use Rattle.device.specs.State.{Shaped, ringOf, withRing, withSlot, withMarker}
 use Rattle.device.specs.Ready.{bytesOfRing, pickOf}
-use Rattle.device.specs.Turn.{Call, Servable, unchanged, emitTo, ringAfter, deviceAfter, finished, servedOf, pickedOf, judgedOf, verdictOn, turnOf}
-use Rattle.device.specs.Left.{Shaped, leftOf, sumOf, bytesLeft}
+use Rattle.device.specs.Turn.{Call, unchanged, emitTo, ringAfter, deviceAfter, finished, servedOf, pickedOf, judgedOf, verdictOn, turnOf}
+use Rattle.device.specs.Left.{leftOf, sumOf, bytesLeft}
 use Rattle.device.proofs.Verdicts.{servable}
 use Rattle.device.proofs.Wholes.{whole-inside}
 

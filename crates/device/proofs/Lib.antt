@@ -3,3 +3,4 @@ pub mod Wholes
 pub mod Verdicts
 pub mod Windows
 pub mod BytesLeft
+pub mod Shapes

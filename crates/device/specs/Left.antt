@@ -1,17 +1,11 @@
 -- The bytes that are left to take.
 use Prim.Native.Nat.{ℕ, zero, suc, _+_, _-_}
 use mathlib.Core.List.{List}
-use mathlib.Core.Path.{_≡_}
 use lib.ListN.{length}
 use Rattle.device.specs.declared.state.Device.{Device}
 use Rattle.device.specs.State.{ringOf}
 use Rattle.device.specs.Ready.{bytesOfRing}
 use Rattle.device.specs.Turn.{Call}
-
--- a device has four rings and 64 slots
-pub record Shaped (d : Device) : Type 0 where
-  pub rings : length (d .rings) ≡ 4
-  pub slots : length (d .slots) ≡ 64
 
 -- the bytes of a ring that stand after its cursor
 unfoldable pub leftOf : Device → ℕ → List ℕ → ℕ

@@ -1,7 +1,8 @@
 -- The device's state.
 use Prim.Native.Nat.{ℕ}
+use mathlib.Core.Path.{_≡_}
 use mathlib.Core.List.{List, [], _∷_}
-use lib.ListN.{getD, set, replicate}
+use lib.ListN.{length, getD, set, replicate}
 use Rattle.command.specs.declared.frame.Frame.the-variants.{Unset}
 use Rattle.device.specs.declared.state.Window.{Window}
 use Rattle.device.specs.declared.state.Ring.{Ring}
@@ -18,6 +19,11 @@ freshRing window = record { window = window; cursor = 0; frame = Unset }
 -- a device of these parts
 abbrev pub deviceOf : List Ring → List ℕ → ℕ → Device
 deviceOf rings slots marker = record { rings = rings; slots = slots; marker = marker }
+
+-- a device has four rings and 64 slots
+pub record Shaped (d : Device) : Type 0 where
+  pub rings : length (d .rings) ≡ 4
+  pub slots : length (d .slots) ≡ 64
 
 -- a fresh device: all 64 slots 0, the marker 0
 unfoldable pub freshDevice : Window → Window → Window → Window → Device

@@ -14,13 +14,14 @@ use Rattle.device.specs.declared.turn.Answer.{Answer}
 use Rattle.device.specs.declared.turn.Answer.the-variants.{Served, Idle, Refused}
 use Rattle.device.specs.declared.turn.Report.{Report}
 use Rattle.device.specs.declared.turn.Turned.{Turned}
+use Rattle.device.specs.State.{Shaped}
 use Rattle.device.specs.Refusal.{refusalNumber}
 use Rattle.device.specs.Turn.{Call, callOf, Shows, turnOf}
-use Rattle.device.specs.Left.{Shaped, bytesLeft}
+use Rattle.device.specs.Left.{bytesLeft}
 use Rattle.device.proofs.BytesLeft.{served-takes}
+use Rattle.device.proofs.Shapes.{turn-shaped}
 use Rattle.replay.specs.Text.{Appended}
 use Rattle.replay.specs.Transcript.{servedLine, allLines}
-use Rattle.replay.proofs.Shapes.{turn-shaped}
 use Rattle.replay.proofs.Lines.{served-next, idle-ends, refused-ends}
 use Rattle.replay.proofs.TextLaws.{whole-spelled, last-appended, next-rest, next-appended}
 

@@ -1,5 +1,4 @@
 pub mod Fits
-pub mod Shapes
 pub mod Lines
 pub mod TextLaws
 pub mod InPlay

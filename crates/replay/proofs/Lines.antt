@@ -11,12 +11,13 @@ use Rattle.device.specs.declared.refusal.Refusal.{Refusal}
 use Rattle.device.specs.declared.turn.Answer.{Answer}
 use Rattle.device.specs.declared.turn.Answer.the-variants.{Served, Idle, Refused}
 use Rattle.device.specs.declared.turn.Report.{Report}
+use Rattle.device.specs.State.{Shaped}
 use Rattle.device.specs.Refusal.{refusalNumber}
 use Rattle.device.specs.Turn.{Call, turnOf}
-use Rattle.device.specs.Left.{Shaped, bytesLeft}
+use Rattle.device.specs.Left.{bytesLeft}
 use Rattle.device.proofs.BytesLeft.{served-takes}
+use Rattle.device.proofs.Shapes.{turn-shaped}
 use Rattle.replay.specs.Transcript.{servedLine, linesOf, nextCall, linesFrom, allLines, EnoughTurns}
-use Rattle.replay.proofs.Shapes.{turn-shaped}
 
 -- any two numbers above the bytes left give the same lines
 same-lines : (f g turns : ℕ) (d : Device) (call : Call) → Shaped d → bytesLeft d call < f → bytesLeft d call < g → linesFrom f turns d call ≡ linesFrom g turns d call

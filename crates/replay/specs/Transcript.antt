@@ -12,11 +12,12 @@ use Rattle.device.specs.declared.fresh.Making.the-variants.{Made, Refused as Re
 use Rattle.device.specs.declared.turn.Answer.{Answer}
 use Rattle.device.specs.declared.turn.Answer.the-variants.{Served, Idle, Refused as RefusedTurn}
 use Rattle.device.specs.declared.turn.Report.{Report}
+use Rattle.device.specs.State.{Shaped}
 use Rattle.device.specs.Refusal.{refusalNumber}
 use Rattle.device.specs.Answer.{valuesOf, makingNumber}
 use Rattle.device.specs.Fresh.{freshOf}
 use Rattle.device.specs.Turn.{Call, callOf, After, turnOf}
-use Rattle.device.specs.Left.{Shaped, bytesLeft}
+use Rattle.device.specs.Left.{bytesLeft}
 use Rattle.job.specs.declared.parse.Parsed.{Parsed}
 use Rattle.job.specs.declared.parse.Parsed.the-variants.{Accepted, Refused}
 use Rattle.job.specs.declared.parts.Job.{Job}

@@ -2,8 +2,9 @@
 ghost use mathlib.Core.Path.{_≡_};
 ghost use Prim.Native.Nat.{_≤_};
 ghost use lib.ListN.{length};
+ghost use Rattle.device.specs.State.{Shaped};
 ghost use Rattle.device.specs.Turn.{callOf};
-ghost use Rattle.device.specs.Left.{Shaped, bytesLeft};
+ghost use Rattle.device.specs.Left.{bytesLeft};
 ghost use Rattle.job.specs.Parse.{partsOf};
 ghost use Rattle.job.specs.Put.{Spelled};
 ghost use Rattle.replay.specs.Transcript.{allLines, asWindow, emptyPipe, firstCall, jobText, transcriptOf};

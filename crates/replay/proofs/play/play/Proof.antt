@@ -1,6 +1,6 @@
 -- `replay::play::play` meets its contract. Assumes nothing.
 use denote.Ref.{now}
-use Rattle.replay.proofs.Shapes.{made-shaped}
+use Rattle.device.proofs.Shapes.{made-shaped}
 use Rattle.replay.proofs.TextLaws.{alone}
 use Rattle.replay.proofs.JobText.{fresh-for, made-text, unmade-text}
 use borrow.Author.Needs.{needs}

@@ -7,36 +7,35 @@ use lib.ListN.{length-set}
 use Rattle.command.specs.declared.header.Command.{Command}
 use Rattle.command.specs.declared.work.Performed.{Performed}
 use Rattle.command.specs.Choice.{either}
 use Rattle.device.specs.declared.state.Device.{Device}
 use Rattle.device.specs.declared.state.Window.{Window}
 use Rattle.device.specs.declared.refusal.Verdict.{Verdict}
 use Rattle.device.specs.declared.refusal.Verdict.the-variants.{Sound, Refused}
 use Rattle.device.specs.declared.ready.Picked.{Picked}
 use Rattle.device.specs.declared.ready.Picked.the-variants.{Ring, Nobody}
 use Rattle.device.specs.declared.refusal.Refusal.the-variants.{Memory}
 use Rattle.device.specs.declared.fresh.Making.the-variants.{Made, Refused as Refuses}
 use Rattle.device.specs.declared.fresh.Fresh.{Fresh}
-use Rattle.device.specs.State.{emptyWindow, withRing, withSlot, withMarker, freshDevice}
+use Rattle.device.specs.State.{Shaped, emptyWindow, withRing, withSlot, withMarker, freshDevice}
 use Rattle.device.specs.Fresh.{freshOf}
 use Rattle.device.specs.Refusal.{memoryFits}
 use Rattle.device.specs.Turn.{Call, emitTo, deviceAfter, finished, servedOf, pickedOf, judgedOf, unchanged, turnOf, verdictOn}
-use Rattle.device.specs.Left.{Shaped}
 
 after-emit : (b : Bool) (d : Device) (n slot : ℕ) → Shaped d → Shaped (emitTo b d n slot)
 unfolding emitTo either withSlot
 after-emit true d n slot s = record { rings = s .rings; slots = length-set (d .slots) n _ ∙ s .slots }
 after-emit false d n slot s = s
 
-after-served : (d : Device) (q : ℕ) (c : Command) (p : Performed) → Shaped d → Shaped (deviceAfter d q c p)
+pub after-shaped : (d : Device) (q : ℕ) (c : Command) (p : Performed) → Shaped d → Shaped (deviceAfter d q c p)
 unfolding deviceAfter withMarker withRing
-after-served d q c p s =
+after-shaped d q c p s =
     let e = after-emit _ _ _ _ (record { rings = length-set (d .rings) q _ ∙ s .rings; slots = s .slots }) in
     record { rings = e .rings; slots = e .slots }
 
 module _ (limit : ℕ) (d : Device) (call : Call) (s : Shaped d) where
   after-pick : (k : Picked) → Shaped (pickedOf limit d call k .turned .device)
   unfolding pickedOf servedOf finished unchanged
-  after-pick (Ring q) = after-served d q _ _ s
+  after-pick (Ring q) = after-shaped d q _ _ s
   after-pick Nobody = s
 
   after-verdict : (v : Verdict) → Shaped (judgedOf limit d call v .turned .device)
@@ -48,7 +47,7 @@ module _ (limit : ℕ) (d : Device) (call : Call) (s : Shaped d) where
   unfolding turnOf
   turn-shaped = after-verdict (verdictOn d call)
 
-fresh-shaped : (w0 w1 w2 w3 : Window) → Shaped (freshDevice w0 w1 w2 w3)
+pub fresh-shaped : (w0 w1 w2 w3 : Window) → Shaped (freshDevice w0 w1 w2 w3)
 unfolding freshDevice
 fresh-shaped w0 w1 w2 w3 = record { rings = refl; slots = refl }
 
