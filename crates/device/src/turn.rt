@@ -198,8 +198,7 @@ pub fn turn<'a>(
             };
         }
     }
-    let picked = pick(d, r0, r1, r2, r3);
-    match picked {
+    match pick(d, r0, r1, r2, r3) {
         Picked::Ring(q) => serve_picked(d, q, mem, r0, r1, r2, r3, pack, pipe),
         Picked::Nobody => Turned {
             device: d,

@@ -27,11 +27,11 @@ pick-requires c κs =
     steady (s .d) (length (now (s .mem))) (now (s .r0)) (now (s .r1)) (now (s .r2)) (now (s .r3)) (length (now (s .pipe))) (now (s .pack))
     (sym (c .before .before .judge .ensures) ∙ c .enum-told .given .1)
 
-enum-known-picked : tie.Need-enum-known-picked
-enum-known-picked c = search needs
+enum-known-q : tie.Need-enum-known-q
+enum-known-q c = search needs
 
 serve-picked-requires : tie.Need-serve-picked-requires
-serve-picked-requires c κs = servable _ _ _ _ _ _ _ _ (sym (c .before .before .before .before .before .before .before .before .judge .ensures) ∙ c .before .before .before .before .before .before .enum-told .given .1) _ (sym (c .before .before .before .before .before .pick .ensures) ∙ c .before .before .before .picked .given .1)
+serve-picked-requires c κs = servable _ _ _ _ _ _ _ _ (sym (c .before .before .before .before .before .before .before .before .judge .ensures) ∙ c .before .before .before .before .before .before .enum-told .given .1) _ (sym (c .before .before .before .before .before .pick .ensures) ∙ c .before .before .before .q .given .1)
 
 enum-told-2 : tie.Need-enum-told-2
 enum-told-2 c = search needs
@@ -44,7 +44,7 @@ same-length-2 c = search needs
 
 returns-2 : tie.Need-returns-2
 unfolding turnOf verdictOn judgedOf pickedOf
-returns-2 c = rw (← c .before .before .before .before .before .before .before .before .before .before .before .before .before .judge .ensures, c .before .before .before .before .before .before .before .before .before .before .before .enum-told .given .1, ← c .before .before .before .before .before .before .before .before .before .before .pick .ensures, c .before .before .before .before .before .before .before .before .picked .given .1) (c .before .before .before .before .serve-picked .ensures)
+returns-2 c = rw (← c .before .before .before .before .before .before .before .before .before .before .before .before .before .judge .ensures, c .before .before .before .before .before .before .before .before .before .before .before .enum-told .given .1, ← c .before .before .before .before .before .before .before .before .before .before .pick .ensures, c .before .before .before .before .before .before .before .before .q .given .1) (c .before .before .before .before .serve-picked .ensures)
 
 returns-3 : tie.Need-returns-3
 unfolding turnOf verdictOn judgedOf pickedOf unchanged
@@ -59,7 +59,7 @@ turn-spec =
     enum-known-verdict
     returns
     pick-requires
-    enum-known-picked
+    enum-known-q
     serve-picked-requires
     enum-told-2
     same-length
