@@ -30,12 +30,14 @@ TurnFollows = (d : Device) (report : List ℕ) (call : Call) → Formed d → le
 abbrev pub OfBytes : List ℕ → Type 0
 OfBytes bytes = (i : ℕ) → getD bytes i 0 < 2 ^ 8
 
+-- and so are those of each ring that a call lends
 abbrev pub RingsOfBytes : Call → Type 0
 RingsOfBytes call = (q : ℕ) → OfBytes (bytesOfRing q (call .ring0) (call .ring1) (call .ring2) (call .ring3))
 
--- and so from call to call: a fresh device is formed, and so is the device that a turn of a formed one leaves
+-- so it is from call to call, for a fresh device is formed
 abbrev pub FreshForms : Type 0
 FreshForms = (windows : List ℕ) (memory : ℕ) → OfBytes windows → Formed (freshFor windows memory .device)
 
+-- and so is the device that a turn of a formed one leaves
 abbrev pub TurnForms : Type 0
 TurnForms = (limit : ℕ) (d : Device) (call : Call) → Formed d → RingsOfBytes call → Formed (turnOf limit d call .turned .device)
