@@ -11,17 +11,16 @@ use lib.Dec.{leb, eqb}
 use borrow.Author.Tests.{leb-true}
 use Rattle.command.specs.Choice.{either}
 use Rattle.command.proofs.Choices.{both-left, both-right}
-use Rattle.command.specs.Header.{commandAt, isWhole}
 use Rattle.kernel.specs.Pack.{soundPack}
 use Rattle.device.specs.declared.state.Device.{Device}
 use Rattle.device.specs.declared.refusal.Refusal.{Refusal}
 use Rattle.device.specs.declared.refusal.Verdict.{Verdict}
 use Rattle.device.specs.declared.refusal.Verdict.the-variants.{Sound, Refused}
 use Rattle.device.specs.declared.ready.Picked.{Picked}
-use Rattle.device.specs.declared.ready.Picked.the-variants.{Ring, Nobody}
-use Rattle.device.specs.State.{ringOf, slotOf}
+use Rattle.device.specs.declared.ready.Picked.the-variants.{Ring}
+use Rattle.device.specs.State.{ringOf}
 use Rattle.device.specs.Refusal.{windowFits, memoryFits, windowsFit, ringSound, stateSound, ringFits, ringsFit, verdictOf}
-use Rattle.device.specs.Ready.{readyWith, readyWhere, readyAt, nextRing, seek, bytesOfRing, pickOf, Steady}
+use Rattle.device.specs.Ready.{readyWhere, readyAt, nextRing, seek, bytesOfRing, pickOf, Steady}
 use Rattle.device.specs.Turn.{Servable}
 use Rattle.device.proofs.Seeks.{next-below}
 

@@ -6,7 +6,6 @@ use mathlib.Core.List.{List}
 use lib.ListN.{length}
 use Rattle.memory.specs.Window.{windowOf, putBack}
 use Rattle.command.specs.declared.header.Command.{Command}
-use Rattle.command.specs.declared.outcome.Outcome.{Outcome}
 use Rattle.command.specs.declared.frame.Frame.{Frame}
 use Rattle.command.specs.declared.work.Performed.{Performed}
 use Rattle.command.specs.Choice.{either}

@@ -1,6 +1,5 @@
 // Which ring is served: the first ready one from the marker upward.
 ghost use mathlib.Core.Path.{_≡_};
-ghost use mathlib.Core.List.{List};
 ghost use Prim.Native.Nat.{_≤_, _<_};
 ghost use lib.ListN.{getD};
 ghost use Rattle.device.specs.Ready.{isMet, readyWith, readyWhere, nextRing, bytesOfRing, pickOf, Steady};

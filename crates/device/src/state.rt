@@ -1,7 +1,7 @@
 // The device's state.
 ghost use mathlib.Core.Path.{_≡_};
 ghost use Prim.Native.Nat.{_<_};
-ghost use Rattle.device.specs.State.{emptyWindow, deviceOf, freshRing, freshDevice, ringOf, slotOf, withRing, withSlot, withMarker};
+ghost use Rattle.device.specs.State.{deviceOf, freshRing, freshDevice, ringOf, slotOf, withRing, withSlot, withMarker};
 use command::frame::Frame;
 
 // A ring's part of the memory.

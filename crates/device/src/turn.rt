@@ -3,7 +3,7 @@ ghost use mathlib.Core.Path.{_≡_};
 ghost use Prim.Native.Nat.{_+_, _^_, _<_};
 ghost use lib.ListN.{length};
 ghost use Rattle.kernel.specs.Run.{stepLimit};
-ghost use Rattle.device.specs.State.{ringOf, slotOf};
+ghost use Rattle.device.specs.State.{ringOf};
 ghost use Rattle.device.specs.Turn.{emitted, fenceOf, emitTo, ringAfter, deviceAfter, reportOf, finished, Shows, Servable, servedOf, callOf, turnOf};
 ghost use Rattle.device.specs.Ready.{bytesOfRing};
 use crate::ready::Picked;

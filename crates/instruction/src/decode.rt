@@ -1,7 +1,7 @@
 // From a word to what it stands for.
 ghost use mathlib.Core.Path.{_≡_};
-ghost use Rattle.words.specs.Fields.{rdOf, funct3Of, rs1Of, rs2Of, funct7Of, funct6Of, immI, immS, immB, immU};
-ghost use Rattle.instruction.specs.Rows.{scalarRow, immediateRow, branchRow, loadRow, storeRow, vectorRow, transferRow, vldRow, vstRow};
+ghost use Rattle.words.specs.Fields.{funct3Of, rs2Of, funct7Of, immI, immS, immB};
+ghost use Rattle.instruction.specs.Rows.{scalarRow, immediateRow, branchRow, loadRow, storeRow};
 ghost use Rattle.instruction.specs.Decode.{unusedIs0, vectorOf, transferOf, vldOf, vstOf, opOf, decoded};
 use crate::list::Instr;
 use crate::list::Op;

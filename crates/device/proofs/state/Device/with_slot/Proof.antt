@@ -1,6 +1,6 @@
 -- `device::state::Device::with_slot` meets its contract. Assumes nothing.
 use Rattle.device.specs.State.{withSlot}
-use mathlib.Core.Path.{_≡_, refl, sym}
+use mathlib.Core.Path.{_≡_, refl}
 use lib.ListN.{length}
 use lib.Seq.{set-out}
 use native.Mathlib.Nat.{le-trans, le-of-eq}
