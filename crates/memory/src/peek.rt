@@ -13,7 +13,7 @@ pub fn peek_byte(bytes: &[u8], at: usize) -> u8
 pub fn peek_word(bytes: &[u8], at: usize) -> u32
     ensures { λ r. ⌜ r ≡ wordAt (now (bytes .entry)) at ⌝ }
 {
-    // Past the end there is nothing to add up.
+    // From the end on a word is 0; before it the sums below fit.
     if bytes.len() <= at {
         return 0;
     }
