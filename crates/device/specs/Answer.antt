@@ -1,5 +1,4 @@
--- What an answer stands for: the values that a turn reports, and the number of a making. A refused turn's number is
--- its refusal's, `refusalNumber`.
+-- What an answer stands for: the number and the values that a turn reports, and the number of a making.
 use Prim.Native.Nat.{ℕ}
 use mathlib.Core.Bool.{Bool, false}
 use Rattle.command.specs.Outcome.{outcomeNumber}
@@ -8,6 +7,12 @@ use Rattle.device.specs.declared.fresh.Making.the-variants.{Made, Refuse
 use Rattle.device.specs.declared.turn.Answer.{Answer}
 use Rattle.device.specs.declared.turn.Answer.the-variants.{Refused, Idle, Served}
 use Rattle.device.specs.Refusal.{refusalNumber}
+
+-- a turn's number: 0 served, 1 idle, or the refusal's
+unfoldable pub answerNumber : Answer → ℕ
+answerNumber (Refused why) = refusalNumber why
+answerNumber Idle = 1
+answerNumber (Served r) = 0
 
 -- what is reported of a turn: ring, outcome, fence, words read, IRQ
 pub record Values : Type 0 where
