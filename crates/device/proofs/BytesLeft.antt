@@ -22,7 +22,7 @@ use Rattle.device.specs.declared.ready.Picked.{Picked}
 use Rattle.device.specs.declared.ready.Picked.the-variants.{Ring as Picks, Nobody}
 use Rattle.device.specs.declared.turn.Report.{Report}
 use Rattle.device.specs.declared.turn.Answer.the-variants.{Served}
-use Rattle.device.specs.State.{Shaped, ringOf, withRing, withSlot, withMarker}
+use Rattle.device.specs.State.{Shaped, ringOf, withRing, withSlots, withMarker}
 use Rattle.device.specs.Ready.{bytesOfRing, pickOf}
 use Rattle.device.specs.Turn.{Call, unchanged, emitTo, ringAfter, deviceAfter, finished, servedOf, pickedOf, judgedOf, verdictOn, turnOf}
 use Rattle.device.specs.Left.{leftOf, sumOf, bytesLeft}
@@ -30,16 +30,16 @@ use Rattle.device.proofs.Verdicts.{servable}
 use Rattle.device.proofs.Wholes.{whole-inside}
 
 -- an emit changes no ring
-emit-rings : (b : Bool) (d : Device) (n slot : ℕ) → emitTo b d n slot .rings ≡ d .rings
-unfolding emitTo either withSlot
-emit-rings true d n slot = refl
-emit-rings false d n slot = refl
+emit-rings : (b : Bool) (d : Device) (n : ℕ) → emitTo b d n .rings ≡ d .rings
+unfolding emitTo either withSlots
+emit-rings true d n = refl
+emit-rings false d n = refl
 
 module _ (d : Device) (q : ℕ) (c : Command) (p : Performed) where
   -- of the rings, the served one alone is changed
   pub rings-after : deviceAfter d q c p .rings ≡ set (d .rings) q (ringAfter (ringOf d q) c (p .frame))
   unfolding deviceAfter withMarker withRing
-  rings-after = emit-rings _ _ _ _
+  rings-after = emit-rings _ _ _
 
   pub served-ring : q < length (d .rings) → ringOf (deviceAfter d q c p) q ≡ ringAfter (ringOf d q) c (p .frame)
   unfolding ringOf

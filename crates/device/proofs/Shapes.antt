@@ -16,20 +16,21 @@ use Rattle.device.specs.declared.ready.Picked.the-variants.{Ring, Nobody
 use Rattle.device.specs.declared.refusal.Refusal.the-variants.{Memory}
 use Rattle.device.specs.declared.fresh.Making.the-variants.{Made, Refused as Refuses}
 use Rattle.device.specs.declared.fresh.Fresh.{Fresh}
-use Rattle.device.specs.State.{Shaped, emptyWindow, withRing, withSlot, withMarker, freshDevice}
+use Rattle.device.specs.Slots.{emittedIn}
+use Rattle.device.specs.State.{Shaped, emptyWindow, withRing, withSlots, withMarker, freshDevice}
 use Rattle.device.specs.Fresh.{freshOf}
 use Rattle.device.specs.Refusal.{memoryFits}
 use Rattle.device.specs.Turn.{Call, emitTo, deviceAfter, finished, servedOf, pickedOf, judgedOf, unchanged, turnOf, verdictOn}
 
-after-emit : (b : Bool) (d : Device) (n slot : ℕ) → Shaped d → Shaped (emitTo b d n slot)
-unfolding emitTo either withSlot
-after-emit true d n slot s = record { rings = s .rings; slots = length-set (d .slots) n _ ∙ s .slots }
-after-emit false d n slot s = s
+after-emit : (b : Bool) (d : Device) (n : ℕ) → Shaped d → Shaped (emitTo b d n)
+unfolding emitTo either withSlots emittedIn
+after-emit true d n s = record { rings = s .rings; slots = length-set (d .slots) n _ ∙ s .slots }
+after-emit false d n s = s
 
 pub after-shaped : (d : Device) (q : ℕ) (c : Command) (p : Performed) → Shaped d → Shaped (deviceAfter d q c p)
 unfolding deviceAfter withMarker withRing
 after-shaped d q c p s =
-    let e = after-emit _ _ _ _ (record { rings = length-set (d .rings) q _ ∙ s .rings; slots = s .slots }) in
+    let e = after-emit _ _ _ (record { rings = length-set (d .rings) q _ ∙ s .rings; slots = s .slots }) in
     record { rings = e .rings; slots = e .slots }
 
 module _ (limit : ℕ) (d : Device) (call : Call) (s : Shaped d) where

@@ -1,3 +1,4 @@
+pub mod Slots
 pub mod State
 pub mod Refusal
 pub mod Fresh

@@ -1,5 +1,5 @@
 -- The device's state.
-use Prim.Native.Nat.{ℕ}
+use Prim.Native.Nat.{ℕ, _^_, _<_}
 use mathlib.Core.Path.{_≡_}
 use mathlib.Core.List.{List, [], _∷_}
 use lib.ListN.{length, getD, set, replicate}
@@ -37,12 +37,22 @@ ringOf d q = getD (d .rings) q (freshRing emptyWindow)
 unfoldable pub slotOf : Device → ℕ → ℕ
 slotOf d n = getD (d .slots) n 0
 
--- the device with one ring, one slot or the marker changed
+-- each slot holds a 32-bit number
+unfoldable pub SlotsFit : Device → Type 0
+SlotsFit d = (n : ℕ) → slotOf d n < 2 ^ 32
+
+-- what every device has by its type
+pub record ByType (d : Device) : Type 0 where
+  pub shaped : Shaped d
+  pub slots-fit : SlotsFit d
+  pub marker-fits : d .marker < 2 ^ 32
+
+-- the device with one ring, the slots or the marker changed
 unfoldable pub withRing : Device → ℕ → Ring → Device
 withRing d q ring = deviceOf (set (d .rings) q ring) (d .slots) (d .marker)
 
-unfoldable pub withSlot : Device → ℕ → ℕ → Device
-withSlot d n number = deviceOf (d .rings) (set (d .slots) n number) (d .marker)
+unfoldable pub withSlots : Device → List ℕ → Device
+withSlots d slots = deviceOf (d .rings) slots (d .marker)
 
 unfoldable pub withMarker : Device → ℕ → Device
 withMarker d marker = deviceOf (d .rings) (d .slots) marker

@@ -1,5 +1,5 @@
 -- A turn.
-use Prim.Native.Nat.{ℕ, _+_, _%_, _^_, _≤_, _<_}
+use Prim.Native.Nat.{ℕ, _+_, _≤_, _<_}
 use mathlib.Core.Path.{_≡_}
 use mathlib.Core.Bool.{Bool, true}
 use mathlib.Core.List.{List}
@@ -21,7 +21,8 @@ use Rattle.device.specs.declared.ready.Picked.the-variants.{Ring as Ring
 use Rattle.device.specs.declared.turn.Answer.{Answer}
 use Rattle.device.specs.declared.turn.Answer.the-variants.{Refused as RefusedFor, Idle, Served}
 use Rattle.device.specs.declared.turn.Turned.{Turned}
-use Rattle.device.specs.State.{ringOf, slotOf, withRing, withSlot, withMarker}
+use Rattle.device.specs.Slots.{emitted, emittedIn}
+use Rattle.device.specs.State.{ringOf, slotOf, withRing, withSlots, withMarker}
 use Rattle.device.specs.Refusal.{verdictOf}
 use Rattle.device.specs.Ready.{nextRing, bytesOfRing, pickOf}
 
@@ -56,17 +57,13 @@ pub record Shows (r : Turned) (m p : List ℕ) (a : After) : Type 0 where
 unfoldable pub unchanged : Device → Call → Answer → After
 unchanged d call answer = record { turned = record { device = d; answer = answer }; memory = call .memory; pipe = call .pipe }
 
--- the number that an emit leaves in its slot
-abbrev pub emitted : ℕ → ℕ
-emitted slot = (slot + 1) % 2 ^ 32
-
 -- the reported fence: the slot's new number, or 0
 unfoldable pub fenceOf : Bool → ℕ → ℕ
 fenceOf emitting slot = either emitting (emitted slot) 0
 
 -- an emit changes its slot
-unfoldable pub emitTo : Bool → Device → ℕ → ℕ → Device
-emitTo emitting d n slot = either emitting (withSlot d n (emitted slot)) d
+unfoldable pub emitTo : Bool → Device → ℕ → Device
+emitTo emitting d n = either emitting (withSlots d (emittedIn (d .slots) n)) d
 
 -- a ring whose command is taken: its cursor moves past it
 unfoldable pub ringAfter : Ring → Command → Frame → Ring
@@ -76,7 +73,7 @@ ringAfter r c frame = record { window = r .window; cursor = r .cursor + c .size;
 unfoldable pub deviceAfter : Device → ℕ → Command → Performed → Device
 deviceAfter d q c p =
     withMarker
-    (emitTo (emits c (p .outcome)) (withRing d q (ringAfter (ringOf d q) c (p .frame))) (c .rdst) (slotOf d (c .rdst)))
+    (emitTo (emits c (p .outcome)) (withRing d q (ringAfter (ringOf d q) c (p .frame))) (c .rdst))
     (nextRing q)
 
 -- what is reported of a served command

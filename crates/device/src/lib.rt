@@ -2,5 +2,6 @@
 pub mod fresh;
 pub mod ready;
 pub mod refusal;
+pub mod slots;
 pub mod state;
 pub mod turn;

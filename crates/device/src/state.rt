@@ -1,7 +1,7 @@
 // The device's state.
 ghost use mathlib.Core.Path.{_≡_};
 ghost use Prim.Native.Nat.{_<_};
-ghost use Rattle.device.specs.State.{deviceOf, freshRing, freshDevice, ringOf, slotOf, withRing, withSlot, withMarker};
+ghost use Rattle.device.specs.State.{deviceOf, ByType, freshRing, freshDevice, ringOf, slotOf, withRing, withSlots, withMarker};
 use command::frame::Frame;
 
 // A ring's part of the memory.
@@ -44,6 +44,13 @@ impl Device {
         }
     }
 
+    // Hands the device back: that every device has four rings and 64 slots of 32 bits is this contract.
+    pub fn by_type(self) -> Self
+        ensures { λ r. ⌜ (r ≡ self) × ByType self ⌝ }
+    {
+        self
+    }
+
     pub fn fresh(w0: Window, w1: Window, w2: Window, w3: Window) -> Self
         ensures { λ r. ⌜ r ≡ freshDevice w0 w1 w2 w3 ⌝ }
     {
@@ -80,13 +87,10 @@ impl Device {
         self
     }
 
-    pub fn with_slot(mut self, n: u8, number: u32) -> Self
-        ensures { λ r. ⌜ r ≡ withSlot self n number ⌝ }
+    pub fn with_slots(mut self, slots: [u32; 64]) -> Self
+        ensures { λ r. ⌜ r ≡ withSlots self slots ⌝ }
     {
-        let at = n as usize;
-        if at < 64 {
-            self.slots[at] = number;
-        }
+        self.slots = slots;
         self
     }
 

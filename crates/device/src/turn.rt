@@ -4,7 +4,7 @@ ghost use Prim.Native.Nat.{_+_, _^_, _<_};
 ghost use lib.ListN.{length};
 ghost use Rattle.kernel.specs.Run.{stepLimit};
 ghost use Rattle.device.specs.State.{ringOf};
-ghost use Rattle.device.specs.Turn.{emitted, fenceOf, emitTo, ringAfter, deviceAfter, reportOf, finished, Shows, Servable, servedOf, callOf, turnOf};
+ghost use Rattle.device.specs.Turn.{fenceOf, emitTo, ringAfter, deviceAfter, reportOf, finished, Shows, Servable, servedOf, callOf, turnOf};
 ghost use Rattle.device.specs.Ready.{bytesOfRing};
 use crate::ready::Picked;
 use crate::ready::bytes_of_ring;
@@ -13,6 +13,8 @@ use crate::ready::pick;
 use crate::refusal::Refusal;
 use crate::refusal::Verdict;
 use crate::refusal::judge;
+use crate::slots::emit;
+use crate::slots::emitted;
 use crate::state::Device;
 use crate::state::Ring;
 use command::frame::Frame;
@@ -25,7 +27,6 @@ use command::report::raises_irq;
 use command::report::words_read;
 use command::work::Performed;
 use kernel::run::STEP_LIMIT;
-use words::arithmetic::add;
 
 // What became of a command.
 pub struct Report {
@@ -48,24 +49,18 @@ pub struct Turned {
     pub answer: Answer,
 }
 
-// The number that an emit leaves in its slot.
-fn emitted(slot: u32) -> u32
-    ensures { λ r. ⌜ r ≡ emitted slot ⌝ }
-{
-    add(slot, 1)
-}
-
 fn fence_of(emitting: bool, slot: u32) -> u32
     ensures { λ r. ⌜ r ≡ fenceOf emitting slot ⌝ }
 {
     if emitting { emitted(slot) } else { 0 }
 }
 
-fn emit_to(emitting: bool, d: Device, n: u8, slot: u32) -> Device
-    ensures { λ r. ⌜ r ≡ emitTo emitting d n slot ⌝ }
+fn emit_to(emitting: bool, d: Device, n: u8) -> Device
+    ensures { λ r. ⌜ r ≡ emitTo emitting d n ⌝ }
 {
     if emitting {
-        d.with_slot(n, emitted(slot))
+        let slots = d.slots;
+        d.with_slots(emit(slots, n))
     } else {
         d
     }
@@ -91,8 +86,7 @@ fn device_after(d: Device, q: u32, command: Command, done: Performed) -> Device
     let frame = done.frame;
     let ring = ring_after(d.ring(q), command, frame);
     let emitting = emits_fence(command, outcome);
-    let slot = d.slot(command.rdst);
-    let next = emit_to(emitting, d.with_ring(q, ring), command.rdst, slot);
+    let next = emit_to(emitting, d.with_ring(q, ring), command.rdst);
     let marker = next_ring(q);
     next.with_marker(marker)
 }

@@ -13,9 +13,6 @@ ring-after-requires c κs = rw (c .ring .ensures) (c .before .pre .1)
 emits-fence-requires : tie.Need-emits-fence-requires
 emits-fence-requires c κs = search needs
 
-slot-requires : tie.Need-slot-requires
-slot-requires c κs = search needs
-
 with-ring-requires : tie.Need-with-ring-requires
 with-ring-requires c κs = search needs
 
@@ -30,7 +27,7 @@ with-marker-requires c κs = search needs
 
 returns : tie.Need-returns
 unfolding deviceAfter
-returns c = rw (c .with-marker .ensures, ← c .before .next-ring .ensures, c .before .before .emit-to .ensures, c .before .before .before .with-ring .ensures, c .before .before .before .before .slot .ensures, c .before .before .before .before .before .emits-fence .ensures, c .before .before .before .before .before .before .ring-after .ensures, c .before .before .before .before .before .before .before .ring .ensures)
+returns c = rw (c .with-marker .ensures, ← c .before .next-ring .ensures, c .before .before .emit-to .ensures, c .before .before .before .with-ring .ensures, c .before .before .before .before .emits-fence .ensures, c .before .before .before .before .before .ring-after .ensures, c .before .before .before .before .before .before .ring .ensures)
 
 pub device-after-spec : {M : Type 1} → statement M
 device-after-spec =
@@ -39,7 +36,6 @@ device-after-spec =
     ring-requires
     ring-after-requires
     emits-fence-requires
-    slot-requires
     with-ring-requires
     emit-to-requires
     next-ring-requires

@@ -5,19 +5,19 @@ use borrow.Author.Needs.{needs}
 use Rattle.device.proofs.turn.emit_to.Statement.{statement}
 use Rattle.device.proofs.turn.emit_to.Tie as tie
 
-emitted-requires : tie.Need-emitted-requires
-emitted-requires c κs = search needs
+emit-requires : tie.Need-emit-requires
+emit-requires c κs = search needs
 
-with-slot-requires : tie.Need-with-slot-requires
-with-slot-requires c κs = search needs
+with-slots-requires : tie.Need-with-slots-requires
+with-slots-requires c κs = search needs
 
 returns : tie.Need-returns
 unfolding emitTo either
-returns c = rw (c .before .before .if1 .taken) (cc)
+returns c = rw (c .before .before .before .if1 .taken) (cc)
 
 returns-2 : tie.Need-returns-2
 unfolding emitTo either
 returns-2 c = rw (c .if1 .left)
 
 pub emit-to-spec : {M : Type 1} → statement M
-emit-to-spec = tie.close (tie.spec emitted-requires with-slot-requires returns returns-2)
+emit-to-spec = tie.close (tie.spec emit-requires with-slots-requires returns returns-2)

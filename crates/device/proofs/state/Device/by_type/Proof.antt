@@ -1,0 +1,23 @@
+-- `device::state::Device::by_type` meets its contract: `c .good` is what the type gives. Assumes nothing.
+use mathlib.Core.Path.{refl}
+use lib.ListN.{getD, length-map}
+use mir.Syntax.{w32}
+use mir.Val.{Fits}
+use Rattle.device.specs.State.{slotOf, SlotsFit}
+use borrow.Author.Needs.{needs}
+use Rattle.device.proofs.state.Device.by_type.Statement.{statement}
+use Rattle.device.proofs.state.Device.by_type.Tie as tie
+
+returns : tie.Need-returns
+unfolding SlotsFit slotOf
+returns c = (
+  refl,
+  record {
+    shaped = record { rings = simp length-map at (c .good .0 .1 .1 .0 .1 .0 .1); slots = search needs };
+    slots-fit = λ n. let number : Fits w32 (getD (c .args .self .slots) n 0) = search needs in number .fits;
+    marker-fits = search needs;
+  },
+)
+
+pub by-type-spec : {M : Type 1} → statement M
+by-type-spec = tie.close (tie.spec returns)
