@@ -10,10 +10,12 @@ use native.Mathlib.Omega.{arith}
 use lib.Dec.{eqb, lit<}
 use Rattle.command.specs.Choice.{either}
 use Rattle.device.specs.declared.state.Device.{Device}
+use Rattle.device.specs.declared.refusal.Refusal.{Refusal}
 use Rattle.device.specs.declared.turn.Report.{Report}
 use Rattle.device.specs.declared.turn.Answer.{Answer}
 use Rattle.device.specs.declared.turn.Answer.the-variants.{Refused, Idle, Served}
 use Rattle.device.specs.State.{Shaped, freshDevice, ringOf}
+use Rattle.device.specs.Answer.{answerNumber, valuesOf}
 use Rattle.device.specs.Turn.{Call}
 use Rattle.device.specs.Left.{leftOf, sumOf, bytesLeft}
 use Rattle.device.proofs.Verdicts.{each-of-four}
@@ -21,6 +23,7 @@ use Rattle.device.proofs.BytesLeft.{served-takes}
 use Rattle.device.proofs.Shapes.{turn-shaped, fresh-shaped}
 use Rattle.demands.specs.Calls.{answerOf, leftBy, isRefused, heard, none, more}
 use Rattle.demands.specs.Bounded.{Lends, served, taken, leftIn, SaysIdle, here, later, TurnsBounded, IdleInTime, FreshIdleInTime}
+use Rattle.demands.proofs.Answers.{refusal-least, is-refused, refused-serves}
 use Rattle.demands.proofs.Turns.{was-served, picked-servable}
 use Rattle.demands.proofs.Keeps.{keeps}
 use Rattle.demands.proofs.Sums.{sum-both}
@@ -32,9 +35,14 @@ lent-left R d call lends = rw (lends 0 (lit< tt), lends 1 (lit< tt), lends 2 (li
 
 -- a served turn takes one command
 one-served : (report : Report) → report .ring < 4 → sumOf 4 (served (Served report)) ≡ 1
-unfolding sumOf served either
+unfolding sumOf served answerNumber valuesOf either
 one-served report four =
     each-of-four (λ r. 0 + either (eqb 0 r) 1 0 + either (eqb 1 r) 1 0 + either (eqb 2 r) 1 0 + either (eqb 3 r) 1 0 ≡ 1) refl refl refl refl (report .ring) four
+
+-- a refused one none
+none-served : (why : Refusal) → sumOf 4 (served (Refused why)) ≡ 0
+unfolding sumOf
+none-served why = rw (refused-serves why 0, refused-serves why 1, refused-serves why 2, refused-serves why 3)
 
 -- and its bytes; a turn that serves none takes none, and it is refused or idle
 record Takes (R : ℕ → List ℕ) (d after : Device) (answer : Answer) : Type 0 where
@@ -43,15 +51,16 @@ record Takes (R : ℕ → List ℕ) (d after : Device) (answer : Answer) : Type 
 
 module _ (limit : ℕ) (d : Device) (call : Call) (R : ℕ → List ℕ) (shaped : Shaped d) where
   turn-takes : (isRefused (answerOf limit d call) ≡ false → Lends R call) → Takes R d (leftBy limit d call) (answerOf limit d call)
-  unfolding sumOf served isRefused either
+  unfolding sumOf served isRefused answerNumber either
   turn-takes lends = go (answerOf limit d call) refl lends
     where
       go : (answer : Answer) → answerOf limit d call ≡ answer → (isRefused answer ≡ false → Lends R call) → Takes R d (leftBy limit d call) answer
       go (Refused why) e lends =
-          let same = keeps limit d call .refused (rw e) .device in
-          record { bytes = omega (arith, ap (leftIn R) same); counts = inr refl }
+          let same = keeps limit d call .refused (rw e (refusal-least why)) .device in
+          let none = none-served why in
+          record { bytes = omega (arith, ap (leftIn R) same, none); counts = inr (rw (is-refused why, none)) }
       go Idle e lends =
-          let same = keeps limit d call .idle e .device in
+          let same = keeps limit d call .idle (rw e) .device in
           record { bytes = omega (arith, ap (leftIn R) same); counts = inl refl }
       go (Served report) e lends =
           let was = was-served limit d call report e in
@@ -68,28 +77,28 @@ none-taken limit d = refl
 
 pub turns-bounded : TurnsBounded
 unfolding TurnsBounded taken
-turns-bounded limit d R [] shaped none = omega (arith, none-taken limit d)
-turns-bounded limit d R (call ∷ calls) shaped (more lends each) =
+turns-bounded d shaped limit R [] none = omega (arith, none-taken limit d)
+turns-bounded d shaped limit R (call ∷ calls) (more lends each) =
     let now = turn-takes limit d call R shaped lends in
-    let further = turns-bounded limit (leftBy limit d call) R calls (turn-shaped limit d call shaped) each in
+    let further = turns-bounded (leftBy limit d call) (turn-shaped limit d call shaped) limit R calls each in
     let both = sum-both (taken limit d (call ∷ calls)) (served (answerOf limit d call)) (taken limit (leftBy limit d call) calls) (λ q four. refl) in
     omega (arith, now .bytes, further, both)
 
 pub idle-in-time : IdleInTime
-unfolding IdleInTime heard
-idle-in-time limit d R [] shaped none enough = absurd (not-suc-le-zero enough)
-idle-in-time limit d R (call ∷ calls) shaped (more lends each) enough =
+unfolding IdleInTime heard answerNumber
+idle-in-time d shaped limit R [] none enough = absurd (not-suc-le-zero enough)
+idle-in-time d shaped limit R (call ∷ calls) (more lends each) enough =
     let now = turn-takes limit d call R shaped lends in
-    go (now .bytes) (now .counts) (idle-in-time limit (leftBy limit d call) R calls (turn-shaped limit d call shaped) each)
+    go (now .bytes) (now .counts) (idle-in-time (leftBy limit d call) (turn-shaped limit d call shaped) limit R calls each)
   where
     go : 16 * sumOf 4 (served (answerOf limit d call)) + leftIn R (leftBy limit d call) ≤ leftIn R d
         → (answerOf limit d call ≡ Idle) ⊎ (either (isRefused (answerOf limit d call)) 0 1 ≡ sumOf 4 (served (answerOf limit d call)))
         → (leftIn R (leftBy limit d call) < 16 * heard limit (leftBy limit d call) calls → SaysIdle limit (leftBy limit d call) calls)
         → SaysIdle limit d (call ∷ calls)
-    go bytes (inl idle) further = here idle
+    go bytes (inl idle) further = here (ap answerNumber idle)
     go bytes (inr counted) further = later (further (omega (arith, bytes, counted, enough)))
 
 pub fresh-idle-in-time : FreshIdleInTime
 unfolding FreshIdleInTime IdleInTime freshDevice ringOf leftOf sumOf
 fresh-idle-in-time limit w0 w1 w2 w3 R calls each enough =
-    idle-in-time limit (freshDevice w0 w1 w2 w3) R calls (fresh-shaped w0 w1 w2 w3) each (omega (arith, enough))
+    idle-in-time (freshDevice w0 w1 w2 w3) (fresh-shaped w0 w1 w2 w3) limit R calls each (omega (arith, enough))

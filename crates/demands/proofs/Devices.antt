@@ -14,11 +14,11 @@ use Rattle.command.specs.Choice.{either}
 use Rattle.command.specs.Report.{emits}
 use Rattle.device.specs.declared.state.Ring.{Ring}
 use Rattle.device.specs.declared.state.Device.{Device}
-use Rattle.device.specs.State.{emptyWindow, freshRing, ringOf, slotOf, withRing, withSlot, withMarker}
+use Rattle.device.specs.Slots.{emitted, emittedIn}
+use Rattle.device.specs.State.{SlotsFit, emptyWindow, freshRing, ringOf, slotOf, withRing, withSlots, withMarker}
 use Rattle.device.specs.Ready.{nextRing}
-use Rattle.device.specs.Turn.{emitted, emitTo, ringAfter, deviceAfter}
+use Rattle.device.specs.Turn.{emitTo, ringAfter, deviceAfter}
 use Rattle.device.proofs.BytesLeft.{rings-after}
-use Rattle.demands.specs.Calls.{SlotsFit}
 
 -- a number put in one place of a list, no less than what it held, lowers no place
 put-rises : (xs : List ℕ) (n v m : ℕ) → getD xs n 0 ≤ v → getD xs m 0 ≤ getD (set xs n v) m 0
@@ -46,18 +46,18 @@ put-frame (x ∷ xs) (suc q) ring zero same = refl
 put-frame (x ∷ xs) (suc q) ring (suc n) same = put-frame xs q ring n same
 
 pub emit-rises : (b : Bool) (d : Device) (n : ℕ) → SlotsFit d → (b ≡ true → slotOf d n ≡ 4294967295 → ⊥) → (m : ℕ)
-    → slotOf d m ≤ slotOf (emitTo b d n (slotOf d n)) m
-unfolding emitTo either withSlot slotOf SlotsFit
+    → slotOf d m ≤ slotOf (emitTo b d n) m
+unfolding emitTo either withSlots emittedIn slotOf SlotsFit
 emit-rises true d n fit room m =
     let below : getD (d .slots) n 0 < 2 ^ 32 = fit n in
     let free : getD (d .slots) n 0 < 4294967295 = omega (arith, room refl) in
     put-rises (d .slots) n (emitted (getD (d .slots) n 0)) m (omega arith)
 emit-rises false d n fit room m = le-refl _
 
-pub emit-below : (b : Bool) (d : Device) (n slot : ℕ) → SlotsFit d → SlotsFit (emitTo b d n slot)
-unfolding emitTo either withSlot slotOf SlotsFit
-emit-below true d n slot fit m = put-below (2 ^ 32) (d .slots) n (emitted slot) m (fit m) (omega arith)
-emit-below false d n slot fit m = fit m
+pub emit-below : (b : Bool) (d : Device) (n : ℕ) → SlotsFit d → SlotsFit (emitTo b d n)
+unfolding emitTo either withSlots emittedIn slotOf SlotsFit
+emit-below true d n fit m = put-below (2 ^ 32) (d .slots) n (emitted (getD (d .slots) n 0)) m (fit m) (omega arith)
+emit-below false d n fit m = fit m
 
 module _ (d : Device) (q : ℕ) (c : Command) (p : Performed) where
   -- the marker becomes the ring after the served one
@@ -73,7 +73,7 @@ module _ (d : Device) (q : ℕ) (c : Command) (p : Performed) where
 
   pub after-fits : SlotsFit d → SlotsFit (deviceAfter d q c p)
   unfolding deviceAfter withMarker withRing slotOf SlotsFit
-  after-fits fit = emit-below (emits c (p .outcome)) (withRing d q (ringAfter (ringOf d q) c (p .frame))) (c .rdst) (slotOf d (c .rdst)) fit
+  after-fits fit = emit-below (emits c (p .outcome)) (withRing d q (ringAfter (ringOf d q) c (p .frame))) (c .rdst) fit
 
   -- the frames stay where the command leaves its ring's
   pub after-frames : p .frame ≡ ringOf d q .frame → (n : ℕ) → ringOf (deviceAfter d q c p) n .frame ≡ ringOf d n .frame
@@ -82,11 +82,11 @@ module _ (d : Device) (q : ℕ) (c : Command) (p : Performed) where
 
   -- an emit puts the new number in its slot, and nothing else changes a slot
   pub after-emit : emits c (p .outcome) ≡ true → deviceAfter d q c p .slots ≡ set (d .slots) (c .rdst) (emitted (slotOf d (c .rdst)))
-  unfolding deviceAfter withMarker withRing emitTo either withSlot
+  unfolding deviceAfter withMarker withRing emitTo either withSlots emittedIn slotOf
   after-emit e = rw e
 
   pub after-no-emit : emits c (p .outcome) ≡ false → deviceAfter d q c p .slots ≡ d .slots
-  unfolding deviceAfter withMarker withRing emitTo either withSlot
+  unfolding deviceAfter withMarker withRing emitTo either withSlots
   after-no-emit e = rw e
 
   pub after-other-slot : (n : ℕ) → (n ≡ c .rdst → ⊥) → slotOf (deviceAfter d q c p) n ≡ slotOf d n

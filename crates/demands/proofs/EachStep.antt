@@ -23,12 +23,12 @@ use Rattle.command.specs.Work.{leaves, ranOutcome, dispatchedBy, afterDispatch}
 use Rattle.command.proofs.Works.{work-dispatch}
 use Rattle.command.proofs.Performs.{performed-work}
 use Rattle.device.specs.declared.state.Device.{Device}
-use Rattle.device.specs.declared.turn.Report.{Report}
-use Rattle.device.specs.declared.turn.Answer.the-variants.{Served}
 use Rattle.device.specs.State.{ringOf, slotOf}
+use Rattle.device.specs.Answer.{valuesOf}
 use Rattle.device.specs.Turn.{Call, servedOf}
-use Rattle.demands.specs.Calls.{ringIn, headIn, answerOf}
+use Rattle.demands.specs.Calls.{ringIn, headIn, answerOf, numberIn, valuesIn}
 use Rattle.demands.specs.EachStep.{windowIn, Dispatches, threadsIn, Leaves, ThreadsInOrder, StepsInOrder, StepByRule, EachStep}
+use Rattle.demands.proofs.Answers.{served-report}
 use Rattle.demands.proofs.Turns.{workIn, was-served}
 
 -- the work of a DISPATCH_1D with no fault is what its threads leave
@@ -40,16 +40,19 @@ dispatch-work limit d call q is =
     performed-work c (slotOf d (c .rdst)) (ringIn call q) (windowIn d call q) (ringOf d q .frame) (call .pack) (call .pipe) limit (is .no-fault)
     ∙ work-dispatch c (ringIn call q) (windowIn d call q) (ringOf d q .frame) (call .pack) (call .pipe) limit (is .opcode)
 
-dispatch-served : (limit : ℕ) (d : Device) (call : Call) (report : Report) → answerOf limit d call ≡ Served report → Dispatches d call (report .ring)
-    → Leaves limit d call report (threadsIn limit d call (report .ring))
-unfolding servedOf afterDispatch leaves
-dispatch-served limit d call report e is =
-    let was = was-served limit d call report e in
-    let work = dispatch-work limit d call (report .ring) is in
+dispatch-served : (limit : ℕ) (d : Device) (call : Call) → numberIn limit d call ≡ 0 → Dispatches d call (valuesIn limit d call .ring)
+    → Leaves limit d call (threadsIn limit d call (valuesIn limit d call .ring))
+unfolding servedOf afterDispatch leaves valuesOf
+dispatch-served limit d call number is =
+    let told = served-report (answerOf limit d call) number in
+    let report = told .0 in
+    let was = was-served limit d call report (told .1) in
+    let ring : valuesIn limit d call .ring ≡ report .ring = ap (λ a. valuesOf a .ring) (told .1) in
+    let work = dispatch-work limit d call (report .ring) (rw ring at is) in
     record {
-      memory = rw (was .after, work);
+      memory = rw (ring, was .after, work);
       pipe = rw (was .after, work);
-      outcome = sym (ap (λ r. r .outcome) (was .told)) ∙ ap (λ l. l .performed .outcome) work;
+      outcome = rw ring (ap (λ a. valuesOf a .outcome) (told .1) ∙ sym (ap (λ r. outcomeNumber (r .outcome)) (was .told)) ∙ ap (λ l. outcomeNumber (l .performed .outcome)) work);
     }
 
 threads-in-order : (limit : ℕ) (pack : List ℕ) (kernel : Kernel) (groups threads : ℕ) (window : List ℕ) → ThreadsInOrder limit pack kernel groups threads window

@@ -20,13 +20,15 @@ use Rattle.command.proofs.Agree.{command-agree, whole-agree}
 use Rattle.command.proofs.Choices.{both-left, both-right}
 use Rattle.device.specs.declared.state.Device.{Device}
 use Rattle.device.specs.declared.ready.Picked.the-variants.{Ring as RingOf}
-use Rattle.device.specs.State.{ringOf, slotOf}
+use Rattle.device.specs.State.{SlotsFit, ringOf, slotOf}
+use Rattle.device.specs.Answer.{answerNumber, valuesOf}
 use Rattle.device.specs.Ready.{isMet, readyWith, readyWhere, readyAt, pickOf}
 use Rattle.device.specs.Turn.{Call, After, turnOf, unchanged, reportOf, finished, servedOf}
 use Rattle.device.proofs.Wholes.{whole-inside}
 use Rattle.device.proofs.BytesLeft.{other-ring}
-use Rattle.demands.specs.Calls.{ringIn, headIn, answerOf, leftBy, isRefused, ServesRing, SlotsFit, heard, EachHeard, none, more, Serves, here, later}
+use Rattle.demands.specs.Calls.{ringIn, headIn, answerOf, leftBy, isRefused, ServesRing, heard, EachHeard, none, more, Serves, here, later}
 use Rattle.demands.specs.FourTurns.{SameHead, FourTurns, FourTurnsByHead}
+use Rattle.demands.proofs.Answers.{is-refused}
 use Rattle.demands.proofs.Turns.{pickIn, servedIn, workIn, turn-cases, marker-below, served-heard}
 use Rattle.demands.proofs.Works.{full-slot-stays}
 use Rattle.demands.proofs.Devices.{after-marker, after-rises, after-fits}
@@ -74,7 +76,7 @@ module _ (q : ℕ) (b : List ℕ) (k : ℕ) where
   module _ (limit : ℕ) (d : Device) (call : Call) (j : ℕ) (w : Waiting j d) where
     -- another ring, i further than the marker, is served
     passed-by : (i : ℕ) → i < j → (walk i (d .marker) ≡ q → ⊥) → Step j d (servedIn limit d call (walk i (d .marker)))
-    unfolding servedOf finished reportOf isRefused
+    unfolding servedOf finished reportOf isRefused answerNumber
     passed-by i less other =
         let r = walk i (d .marker) in
         let c = headIn d call r in
@@ -92,8 +94,8 @@ module _ (q : ℕ) (b : List ℕ) (k : ℕ) where
 
     -- ring q itself is served
     served-now : (i : ℕ) → walk i (d .marker) ≡ q → Step j d (servedIn limit d call (walk i (d .marker)))
-    unfolding servedOf finished reportOf
-    served-now i e = serves (record { report = _; served = refl; ring = e })
+    unfolding servedOf finished reportOf answerNumber valuesOf
+    served-now i e = serves (record { served = refl; ring = e })
 
     reached : SameHead b k (ringIn call q) → (i : ℕ) × (i ≤ j) × (pickIn d call ≡ RingOf (walk i (d .marker)))
     unfolding pickOf
@@ -117,11 +119,11 @@ module _ (q : ℕ) (b : List ℕ) (k : ℕ) where
             (eq-or-lt-of-le le)
 
     step : (isRefused (answerOf limit d call) ≡ false → SameHead b k (ringIn call q)) → Step j d (turnOf limit d call)
-    unfolding unchanged isRefused
+    unfolding unchanged isRefused answerNumber
     step =
         turn-cases limit d call
         (λ a. (isRefused (a .turned .answer) ≡ false → SameHead b k (ringIn call q)) → Step j d a)
-        (λ why e same. refused refl refl)
+        (λ why e same. refused (is-refused why) refl)
         (λ sound e same. absurd (let near = reached (same refl) in let z : _≡_ {A = ℕ} 0 1 = cc (near .2) in omega arith))
         (λ r sound e same. picked r e (same (served-heard limit d call r)))
 
@@ -145,10 +147,10 @@ module _ (q : ℕ) (b : List ℕ) (k : ℕ) where
 -- a refused call leaves the device, and another finds the marker among the rings
 refused-or-marked : (limit : ℕ) (d : Device) (call : Call)
     → ((isRefused (answerOf limit d call) ≡ true) × (leftBy limit d call ≡ d)) ⊎ (d .marker < 4)
-unfolding unchanged isRefused
+unfolding unchanged
 refused-or-marked limit d call =
     turn-cases limit d call (λ a. ((isRefused (a .turned .answer) ≡ true) × (a .turned .device ≡ d)) ⊎ (d .marker < 4))
-    (λ why e. inl (refl, refl))
+    (λ why e. inl (is-refused why, refl))
     (λ sound e. inr (marker-below d call sound))
     (λ r sound e. inr (marker-below d call sound))
 
@@ -172,14 +174,14 @@ waits limit q b k four (call ∷ calls) d fit at ready (more same each) enough =
 
 pub four-turns-by-head : FourTurnsByHead
 unfolding FourTurnsByHead readyAt readyWhere slotOf
-four-turns-by-head limit d q b calls four fit ready each enough =
+four-turns-by-head d fit limit q b calls four ready each enough =
     waits limit q b (ringOf d q .cursor) four calls d fit refl (both-right (isWhole b (ringOf d q .cursor)) _ ready) each enough
 
 pub four-turns : FourTurns
 unfolding FourTurns FourTurnsByHead readyAt readyWhere slotOf
-four-turns limit d q b calls four fit ready each enough =
+four-turns d fit limit q b calls four ready each enough =
     let k = ringOf d q .cursor in
     let whole = both-left (isWhole b k) (readyWith (commandAt b k) (slotOf d (commandAt b k .rdst))) ready in
     let kept : (call : Call) → ringIn call q ≡ b → SameHead b k (ringIn call q) =
     λ call e. record { bytes = λ i low high. ap (λ r. getD r i 0) (sym e); inside = rw e (whole-inside b k whole) } in
-    four-turns-by-head limit d q b calls four fit ready (each-more kept each) enough
+    four-turns-by-head d fit limit q b calls four ready (each-more kept each) enough

@@ -22,13 +22,16 @@ use Rattle.device.specs.declared.ready.Picked.the-variants.{Ring as RingOf}
 use Rattle.device.specs.declared.turn.Answer.the-variants.{Idle}
 use Rattle.device.specs.State.{Shaped, freshDevice, ringOf, slotOf}
 use Rattle.device.specs.Ready.{readyWhere, readyAt, pickOf}
-use Rattle.device.specs.Turn.{Call, emitted, unchanged, deviceAfter, finished, reportOf, servedOf, verdictOn}
+use Rattle.device.specs.Slots.{emitted}
+use Rattle.device.specs.Answer.{answerNumber}
+use Rattle.device.specs.Turn.{Call, unchanged, deviceAfter, finished, reportOf, servedOf, verdictOn}
 use Rattle.device.specs.Left.{sumOf}
 use Rattle.device.proofs.Verdicts.{each-of-four, steady}
 use Rattle.device.proofs.Shapes.{after-shaped, fresh-shaped}
 use Rattle.demands.specs.Calls.{ringIn, headIn, answerOf, leftBy, isRefused, EachHeard, none, more}
 use Rattle.demands.specs.Bounded.{Lends, served, taken}
 use Rattle.demands.specs.Idle.{placeOf, nth, isEmitting, emitsIn, countOf, oneMore, Order, nothing, start, lastOf, IdleIsDone}
+use Rattle.demands.proofs.Answers.{idle-answer, refused-serves}
 use Rattle.demands.proofs.Turns.{pickIn, servedIn, workIn, turn-cases, marker-below, served-heard, picked-servable}
 use Rattle.demands.proofs.Works.{emits-when-sound}
 use Rattle.demands.proofs.Devices.{after-emit, after-no-emit, after-other-slot}
@@ -162,12 +165,12 @@ module _ (limit : ℕ) (R : ℕ → List ℕ) where
 
   turn-took : (d : Device) (t : ℕ → ℕ) → Took R d t → (call : Call) → (isRefused (answerOf limit d call) ≡ false → Lends R call)
       → (u : ℕ → ℕ) × Took R (leftBy limit d call) u × ((q : ℕ) → u q ≡ t q + served (answerOf limit d call) q)
-  unfolding unchanged served
+  unfolding unchanged served answerNumber either
   turn-took d t took call =
       turn-cases limit d call
       (λ a. (isRefused (a .turned .answer) ≡ false → Lends R call)
       → (u : ℕ → ℕ) × Took R (a .turned .device) u × ((q : ℕ) → u q ≡ t q + served (a .turned .answer) q))
-      (λ why v lends. (t, took, λ q. omega arith))
+      (λ why v lends. (t, took, λ q. omega (arith, refused-serves why q)))
       (λ v p lends. (t, took, λ q. omega arith))
       (λ r v p lends.
       let lent = lends (served-heard limit d call r) in
@@ -200,6 +203,6 @@ pub idle-is-done : IdleIsDone
 unfolding IdleIsDone
 idle-is-done limit w0 w1 w2 w3 R calls last each lends idle n order q =
     let ran = run-took limit R calls (freshDevice w0 w1 w2 w3) (λ q. 0) (fresh-took R w0 w1 w2 w3) each in
-    let unready = idle-unready limit R (lastOf limit (freshDevice w0 w1 w2 w3) calls) last idle in
+    let unready = idle-unready limit R (lastOf limit (freshDevice w0 w1 w2 w3) calls) last (idle-answer _ idle) in
     let le = behind limit R _ (ran .0) (ran .1) (λ p four ready. unready p four (rw (lends p four) ready)) order q in
     omega (arith, le, ran .2 q)

@@ -1,3 +1,4 @@
+pub mod Answers
 pub mod Turns
 pub mod Devices
 pub mod Works
@@ -12,6 +13,7 @@ pub mod Bounded
 pub mod Orders
 pub mod Idle
 pub mod Demands
+pub mod Demanded
 pub mod Table
 pub mod OneAnswer
 pub mod EachStep

@@ -20,14 +20,17 @@ use Rattle.command.specs.Work.{heldBy}
 use Rattle.command.proofs.Choices.{both-left, both-right}
 use Rattle.device.specs.declared.state.Device.{Device}
 use Rattle.device.specs.declared.turn.Report.{Report}
-use Rattle.device.specs.State.{Shaped, ringOf, slotOf}
+use Rattle.device.specs.declared.turn.Answer.the-variants.{Served}
+use Rattle.device.specs.State.{Shaped, SlotsFit, ringOf, slotOf}
+use Rattle.device.specs.Answer.{Values, valuesOf}
 use Rattle.device.specs.Ready.{readyAt, pickOf}
-use Rattle.device.specs.Turn.{fenceOf, ringAfter, deviceAfter, finished, servedOf}
+use Rattle.device.specs.Turn.{Call, fenceOf, ringAfter, deviceAfter, finished, servedOf}
 use Rattle.device.proofs.Verdicts.{found}
 use Rattle.device.proofs.BytesLeft.{served-ring, other-ring}
 use Rattle.device.proofs.Shapes.{after-shaped}
-use Rattle.demands.specs.Calls.{ringIn, headIn, leftBy, SlotsFit}
-use Rattle.demands.specs.Reports.{Signals, Interrupts, Reads, SetsFrame, Reported, TurnReports}
+use Rattle.demands.specs.Calls.{ringIn, headIn, answerOf, leftBy}
+use Rattle.demands.specs.Reports.{Signals, Interrupts, Reads, SetsFrame, Reported, Serving, TurnReports}
+use Rattle.demands.proofs.Answers.{served-report}
 use Rattle.demands.proofs.Turns.{workIn, was-served, marker-below}
 use Rattle.demands.proofs.Works.{full-slot-stays, frame-set, frame-kept}
 use Rattle.demands.proofs.Devices.{after-marker, after-fits, after-emit, after-no-emit, after-other-slot}
@@ -49,25 +52,25 @@ not-held true f = absurd (f refl)
 not-held false f = refl
 
 module _ (c : Command) (o : Outcome) where
-  pub signals : (emits c o ≡ true) ↔ Signals c o
+  pub signals : (emits c o ≡ true) ↔ Signals c (outcomeNumber o)
   unfolding emits
   signals = (
     λ e. (both-left (emitBit (c .flags)) _ e, ⊎-elim (λ z. inl (eqb-true _ _ z)) (λ l. inr (leb-true _ _ l)) (which _ _ (both-right (emitBit (c .flags)) _ e))),
     λ s. both _ _ (s .0) (one-of (eqb (outcomeNumber o) 0) (leb 6 (outcomeNumber o)) (⊎-elim (λ z. inl (eq-eqb _ _ z)) (λ l. inr (le-leb _ _ l)) (s .1))),
   )
 
-  pub interrupts-when : (interrupts c o ≡ true) ↔ Interrupts c o
+  pub interrupts-when : (interrupts c o ≡ true) ↔ Interrupts c (outcomeNumber o)
   unfolding interrupts
   interrupts-when = (
     λ e. (both-left (irqBit (c .flags)) _ e, ⊎-elim (λ z. inl (eqb-true _ _ z)) (λ l. inr (ltb-true _ _ l)) (which _ _ (both-right (irqBit (c .flags)) _ e))),
     λ s. both _ _ (s .0) (one-of (eqb (outcomeNumber o) 0) (ltb 4 (outcomeNumber o)) (⊎-elim (λ z. inl (eq-eqb _ _ z)) (λ l. inr (lt-ltb _ _ l)) (s .1))),
   )
 
-  reads : Reads c o → wordsRead c o ≡ c .len
+  reads : Reads c (outcomeNumber o) → wordsRead c o ≡ c .len
   unfolding wordsRead either
   reads r = rw (eq-eqb (c .opcode) readMem (r .0), eq-eqb (outcomeNumber o) 0 (r .1))
 
-  reads-not : (Reads c o → ⊥) → wordsRead c o ≡ 0
+  reads-not : (Reads c (outcomeNumber o) → ⊥) → wordsRead c o ≡ 0
   unfolding wordsRead either
   reads-not not =
       let is = eqb (c .opcode) readMem in
@@ -75,11 +78,11 @@ module _ (c : Command) (o : Outcome) where
 
 module _ (d : Device) (q : ℕ) (c : Command) (p : Performed) (shaped : Shaped d) (fit : SlotsFit d) (four : q < 4)
     (full : emits c (p .outcome) ≡ true → slotOf d (c .rdst) ≡ 4294967295 → ⊥) (range : emits c (p .outcome) ≡ true → c .rdst < 64)
-    (sets : SetsFrame c (p .outcome) → p .frame ≡ heldBy c) (kept : (SetsFrame c (p .outcome) → ⊥) → p .frame ≡ ringOf d q .frame) where
-  abbrev told : Report
+    (sets : SetsFrame c (outcomeNumber (p .outcome)) → p .frame ≡ heldBy c) (kept : (SetsFrame c (outcomeNumber (p .outcome)) → ⊥) → p .frame ≡ ringOf d q .frame) where
+  abbrev told : Values
   told = record {
     ring = q;
-    outcome = p .outcome;
+    outcome = outcomeNumber (p .outcome);
     fence = fenceOf (emits c (p .outcome)) (slotOf d (c .rdst));
     words = wordsRead c (p .outcome);
     irq = interrupts c (p .outcome);
@@ -95,7 +98,7 @@ module _ (d : Device) (q : ℕ) (c : Command) (p : Performed) (shaped : Shaped d
   unfolding fenceOf either slotOf
   holds e = rw (after-emit d q c p e, e) (getD-set-same (d .slots) (c .rdst) _ 0 (omega (arith, range e, shaped .slots)))
 
-  silent : (Signals c (p .outcome) → ⊥) → emits c (p .outcome) ≡ false
+  silent : (Signals c (outcomeNumber (p .outcome)) → ⊥) → emits c (p .outcome) ≡ false
   silent not = not-held (emits c (p .outcome)) (λ e. not (signals c (p .outcome) .0 e))
 
   no-fence : emits c (p .outcome) ≡ false → fenceOf (emits c (p .outcome)) (slotOf d (c .rdst)) ≡ 0
@@ -128,9 +131,11 @@ module _ (d : Device) (q : ℕ) (c : Command) (p : Performed) (shaped : Shaped d
     marker = after-marker d q c p;
   }
 
-pub turn-reports : TurnReports
-unfolding TurnReports servedOf finished pickOf
-turn-reports limit d call report shaped fit e =
+-- the values of a served turn's report
+reports : (limit : ℕ) (d : Device) (call : Call) (report : Report) → Shaped d → SlotsFit d → answerOf limit d call ≡ Served report
+    → Serving limit d call (valuesOf (Served report))
+unfolding servedOf finished pickOf valuesOf
+reports limit d call report shaped fit e =
     let was = was-served limit d call report e in
     let q = report .ring in
     let c = headIn d call q in
@@ -141,9 +146,15 @@ turn-reports limit d call report shaped fit e =
       ready = picked .1;
       reported =
           rw (leftBy, was .after)
-          (subst (λ (r : Report). Reported d q c r (deviceAfter d q c p)) (was .told)
+          (subst (λ (r : Report). Reported d q c (valuesOf (Served r)) (deviceAfter d q c p)) (was .told)
           (reported d q c p shaped fit (picked .0) (full-slot-stays _ _ _ _ _ _ _ _) (emits-in-range _ _ _ _ _ _ _ _)
           (frame-set _ _ _ _ _ _ _ _) (frame-kept _ _ _ _ _ _ _ _)));
       shaped = rw (leftBy, was .after) (after-shaped d q c p shaped);
       slots = rw (leftBy, was .after) (after-fits d q c p fit);
     }
+
+pub turn-reports : TurnReports
+unfolding TurnReports
+turn-reports d shaped fit limit call number =
+    let told = served-report (answerOf limit d call) number in
+    rw (told .1) (reports limit d call (told .0) shaped fit (told .1))

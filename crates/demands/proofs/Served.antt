@@ -9,6 +9,7 @@ use Rattle.device.specs.declared.state.Device.{Device}
 use Rattle.device.specs.declared.refusal.Verdict.the-variants.{Sound}
 use Rattle.device.specs.declared.ready.Picked.the-variants.{Ring as RingOf}
 use Rattle.device.specs.State.{Shaped, ringOf}
+use Rattle.device.specs.Answer.{answerNumber, valuesOf}
 use Rattle.device.specs.Turn.{Call, ringAfter, finished, reportOf, servedOf, verdictOn}
 use Rattle.device.proofs.BytesLeft.{served-ring, other-ring}
 use Rattle.demands.specs.Calls.{headIn}
@@ -29,5 +30,5 @@ module _ (limit : ℕ) (d : Device) (call : Call) (r : ℕ) where
 
   -- one command is taken
   pub served-is : (n : ℕ) → served (servedIn limit d call r .turned .answer) n ≡ either (eqb n r) 1 0
-  unfolding servedOf finished reportOf served
+  unfolding servedOf finished reportOf served answerNumber valuesOf
   served-is n = refl

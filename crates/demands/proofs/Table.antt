@@ -13,11 +13,12 @@ use Rattle.kernel.specs.Thread.{started, writtenVector, movedTo, advanced}
 use Rattle.kernel.specs.Step.{goesOn, applied, executed}
 use Rattle.kernel.proofs.Examples as kernel
 use Rattle.kernel.specs.Examples.{afterWord}
-use Rattle.demands.specs.Table.{colored, ringNamed, holding, vector, Table}
-use Rattle.device.specs.State.{freshDevice, ringOf, slotOf, withRing, withSlot, withMarker}
+use Rattle.demands.specs.Table.{colored, holding, vector, Table}
+use Rattle.device.specs.State.{freshDevice, ringOf, slotOf, withRing, withSlots, withMarker}
+use Rattle.device.specs.Slots.{emittedIn}
 use Rattle.device.specs.Refusal.{windowFits, memoryFits, windowsFit, ringSound, stateSound, ringFits, ringsFit, verdictOf}
 use Rattle.device.specs.Ready.{readyWith, readyWhere, readyAt, nextRing, seek, bytesOfRing, pickOf}
-use Rattle.device.specs.Answer.{valuesOf}
+use Rattle.device.specs.Answer.{answerNumber, valuesOf}
 use Rattle.device.specs.Turn.{unchanged, fenceOf, emitTo, ringAfter, deviceAfter, reportOf, finished, servedOf, pickedOf, judgedOf, verdictOn, turnOf}
 use Rattle.command.specs.Choice.{either}
 use Rattle.command.specs.Table.{rowOf}
@@ -42,24 +43,24 @@ unfolding afterWord started startRegisters executed decoded opOf vectorOf unused
 vadd = (refl, refl)
 
 pub table : Table
-unfolding valuesOf colored ringNamed freshDevice ringOf slotOf withRing withSlot withMarker windowFits memoryFits windowsFit ringSound stateSound ringFits ringsFit verdictOf readyWith readyWhere readyAt nextRing seek bytesOfRing pickOf unchanged fenceOf emitTo ringAfter deviceAfter reportOf finished servedOf pickedOf judgedOf verdictOn turnOf either rowOf waitSize payloadSize targetAt commandAt isWhole outcomeNumber unknownOpcode wrongPayloadBit noSuchSlot headerFault frameMisaligned frameUnfit frameFault heldFault strideOf isRectangle sizeOf widthOf heightOf tooNarrow endOf slotFault misaligned unframed outside unfitFrame outOfRange unfitDispatch checkOf emits interrupts wordsRead leaves ranOutcome dispatchedBy afterDispatch heldBy workOf orElse faultOf guarded performedOf after halfAt wordAt withByte withHalf withWord rectangleEnd filledRow filled windowOf putBack kernelCount firstWord kernelWords codeCount liesInCode allLie soundPack kernelOf
+unfolding answerNumber valuesOf colored freshDevice ringOf slotOf withRing withSlots emittedIn withMarker windowFits memoryFits windowsFit ringSound stateSound ringFits ringsFit verdictOf readyWith readyWhere readyAt nextRing seek bytesOfRing pickOf unchanged fenceOf emitTo ringAfter deviceAfter reportOf finished servedOf pickedOf judgedOf verdictOn turnOf either rowOf waitSize payloadSize targetAt commandAt isWhole outcomeNumber unknownOpcode wrongPayloadBit noSuchSlot headerFault frameMisaligned frameUnfit frameFault heldFault strideOf isRectangle sizeOf widthOf heightOf tooNarrow endOf slotFault misaligned unframed outside unfitFrame outOfRange unfitDispatch checkOf emits interrupts wordsRead leaves ranOutcome dispatchedBy afterDispatch heldBy workOf orElse faultOf guarded performedOf after halfAt wordAt withByte withHalf withWord rectangleEnd filledRow filled windowOf putBack kernelCount firstWord kernelWords codeCount liesInCode allLie soundPack kernelOf
 table = record {
-  p1 = (refl, refl);
-  p2 = refl;
-  p3 = refl;
+  p1 = ((refl, refl), refl);
+  p2 = (refl, refl);
+  p3 = (refl, refl);
   p4 = kernel.p4 .1;
   p5 = kernel.p5 .1;
   p6 = kernel.p6;
   p7 = kernel.p7 .1;
   p8 = (
     λ groups threads window hg ht small. let run = kernel.p8 groups threads window hg ht small in record { outcome = rw run; kept = rw run },
-    rw (kernel.p8 1 1 (replicate 64 0) (omega arith) (omega arith) (omega arith)),
+    let run = kernel.p8 1 1 (replicate 64 0) (omega arith) (omega arith) (omega arith) in (refl, rw run),
   );
   p9 = (
     λ groups threads window hg ht. let run = kernel.p9 groups threads window hg ht in record { outcome = rw run; kept = rw run },
-    rw (kernel.p9 1 1 (replicate 64 0) (omega arith) (omega arith)),
+    let run = kernel.p9 1 1 (replicate 64 0) (omega arith) (omega arith) in (refl, rw run),
   );
   p10 = vadd;
-  p11 = refl;
-  p12 = refl;
+  p11 = (record { served = refl; ring = refl }, record { served = refl; ring = refl }, record { served = refl; ring = refl }, record { served = refl; ring = refl });
+  p12 = (refl, refl);
 }

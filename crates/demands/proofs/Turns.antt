@@ -20,6 +20,7 @@ use Rattle.device.specs.declared.turn.Answer.{Answer}
 use Rattle.device.specs.declared.turn.Answer.the-variants.{Refused as RefusedFor, Idle, Served}
 use Rattle.device.specs.State.{ringOf, slotOf}
 use Rattle.device.specs.Ready.{pickOf}
+use Rattle.device.specs.Answer.{answerNumber}
 use Rattle.device.specs.Turn.{Call, After, unchanged, fenceOf, reportOf, finished, servedOf, pickedOf, judgedOf, verdictOn, turnOf, Servable}
 use Rattle.device.proofs.Verdicts.{steady, servable}
 use Rattle.demands.specs.Calls.{ringIn, headIn, answerOf, isRefused}
@@ -93,7 +94,7 @@ marker-below d call sound =
     steady d (length (call .memory)) (call .ring0) (call .ring1) (call .ring2) (call .ring3) (length (call .pipe)) (call .pack) sound .marker
 
 pub served-heard : (limit : ℕ) (d : Device) (call : Call) (r : ℕ) → isRefused (servedIn limit d call r .turned .answer) ≡ false
-unfolding servedOf finished reportOf isRefused
+unfolding servedOf finished reportOf isRefused answerNumber
 served-heard limit d call r = refl
 
 -- what a picked ring has

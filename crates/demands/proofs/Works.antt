@@ -109,7 +109,7 @@ module _ (c : Command) (slot : ℕ) (ring window : List ℕ) (frame : Frame) (pa
   }
 
   -- a SET_FB with outcome 0 leaves the frame of its arguments
-  pub frame-set : SetsFrame c outcome → work .performed .frame ≡ heldBy c
+  pub frame-set : SetsFrame c (outcomeNumber outcome) → work .performed .frame ≡ heldBy c
   unfolding leaves
   frame-set sets =
       performed-has c slot ring window frame pack pipe limit
@@ -120,7 +120,7 @@ module _ (c : Command) (slot : ℕ) (ring window : List ℕ) (frame : Frame) (pa
 
   -- every other command leaves the frame as it was
   abbrev FrameKept : Left → Type 0
-  FrameKept l = (SetsFrame c (l .performed .outcome) → ⊥) → l .performed .frame ≡ frame
+  FrameKept l = (SetsFrame c (outcomeNumber (l .performed .outcome)) → ⊥) → l .performed .frame ≡ frame
 
   pub frame-kept : FrameKept work
   unfolding leaves afterDispatch outcomeNumber

@@ -1,6 +1,7 @@
 -- Turns over unchanging rings come to an end: each served turn takes at least 16 bytes of a ring.
 use Prim.Native.Nat.{ℕ, _+_, _*_, _≤_, _<_}
 use mathlib.Core.Path.{_≡_}
+use mathlib.Core.Bool.{_&&_}
 use mathlib.Core.List.{List, [], _∷_}
 use lib.Dec.{eqb}
 use lib.ListN.{length}
@@ -8,11 +9,11 @@ use Rattle.command.specs.Choice.{either}
 use Rattle.device.specs.declared.state.Window.{Window}
 use Rattle.device.specs.declared.state.Device.{Device}
 use Rattle.device.specs.declared.turn.Answer.{Answer}
-use Rattle.device.specs.declared.turn.Answer.the-variants.{Refused, Idle, Served}
 use Rattle.device.specs.State.{Shaped, freshDevice}
+use Rattle.device.specs.Answer.{answerNumber, valuesOf}
 use Rattle.device.specs.Turn.{Call}
 use Rattle.device.specs.Left.{leftOf, sumOf}
-use Rattle.demands.specs.Calls.{ringIn, answerOf, leftBy, heard, EachHeard}
+use Rattle.demands.specs.Calls.{ringIn, answerOf, leftBy, numberIn, heard, EachHeard}
 
 -- the call lends R q as the bytes of each ring q
 abbrev pub Lends : (ℕ → List ℕ) → Call → Type 0
@@ -20,9 +21,7 @@ Lends R call = (q : ℕ) → q < 4 → ringIn call q ≡ R q
 
 -- 1 if the answer serves ring q, else 0
 unfoldable pub served : Answer → ℕ → ℕ
-served (Refused why) q = 0
-served Idle q = 0
-served (Served report) q = either (eqb q (report .ring)) 1 0
+served answer q = either (eqb (answerNumber answer) 0 && eqb q (valuesOf answer .ring)) 1 0
 
 -- how many commands of ring q the calls take
 unfoldable pub taken : ℕ → Device → List Call → ℕ → ℕ
@@ -35,20 +34,25 @@ leftIn R d = sumOf 4 (λ q. leftOf d q (R q))
 
 -- one of the calls answers idle
 pub data SaysIdle (limit : ℕ) : Device → List Call → Type 0 where
-  here : {d : Device} {call : Call} {calls : List Call} → answerOf limit d call ≡ Idle → SaysIdle limit d (call ∷ calls)
+  here : {d : Device} {call : Call} {calls : List Call} → numberIn limit d call ≡ 1 → SaysIdle limit d (call ∷ calls)
   later : {d : Device} {call : Call} {calls : List Call} → SaysIdle limit (leftBy limit d call) calls → SaysIdle limit d (call ∷ calls)
 
 -- the calls that serve a ring are no more than a sixteenth of the bytes left
+abbrev pub BoundedFrom : Device → Type 0
+BoundedFrom d =
+    (limit : ℕ) (R : ℕ → List ℕ) (calls : List Call) → EachHeard (Lends R) limit d calls → 16 * sumOf 4 (taken limit d calls) ≤ leftIn R d
+
 unfoldable pub TurnsBounded : Type 0
-TurnsBounded =
-    (limit : ℕ) (d : Device) (R : ℕ → List ℕ) (calls : List Call) → Shaped d → EachHeard (Lends R) limit d calls
-    → 16 * sumOf 4 (taken limit d calls) ≤ leftIn R d
+TurnsBounded = (d : Device) → Shaped d → BoundedFrom d
 
 -- if more calls than that are not refused, one of them answers idle
-unfoldable pub IdleInTime : Type 0
-IdleInTime =
-    (limit : ℕ) (d : Device) (R : ℕ → List ℕ) (calls : List Call) → Shaped d → EachHeard (Lends R) limit d calls
+abbrev pub IdleInTimeFrom : Device → Type 0
+IdleInTimeFrom d =
+    (limit : ℕ) (R : ℕ → List ℕ) (calls : List Call) → EachHeard (Lends R) limit d calls
     → leftIn R d < 16 * heard limit d calls → SaysIdle limit d calls
+
+unfoldable pub IdleInTime : Type 0
+IdleInTime = (d : Device) → Shaped d → IdleInTimeFrom d
 
 -- from fresh, the bytes left are those of the four rings
 unfoldable pub FreshIdleInTime : Type 0

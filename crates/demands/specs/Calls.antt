@@ -1,18 +1,18 @@
 -- Calls one after another, each starting from the device that the last one left.
-use Prim.Native.Nat.{ℕ, _+_, _^_, _<_}
+use Prim.Native.Nat.{ℕ, _+_}
 use mathlib.Core.Path.{_≡_}
-use mathlib.Core.Bool.{Bool, true, false}
+use mathlib.Core.Bool.{Bool, false}
 use mathlib.Core.List.{List, [], _∷_}
+use lib.Dec.{leb}
 use Rattle.command.specs.declared.header.Command.{Command}
 use Rattle.command.specs.Choice.{either}
 use Rattle.command.specs.Header.{commandAt}
 use Rattle.device.specs.declared.state.Device.{Device}
-use Rattle.device.specs.declared.turn.Report.{Report}
 use Rattle.device.specs.declared.turn.Answer.{Answer}
-use Rattle.device.specs.declared.turn.Answer.the-variants.{Refused, Idle, Served}
-use Rattle.device.specs.State.{ringOf, slotOf}
+use Rattle.device.specs.State.{ringOf}
 use Rattle.device.specs.Ready.{bytesOfRing}
 use Rattle.device.specs.Turn.{Call, turnOf}
+use Rattle.device.specs.Answer.{Values, answerNumber, valuesOf}
 
 -- the bytes of ring q that a call lends
 abbrev pub ringIn : Call → ℕ → List ℕ
@@ -30,20 +30,22 @@ answerOf limit d call = turnOf limit d call .turned .answer
 abbrev pub leftBy : ℕ → Device → Call → Device
 leftBy limit d call = turnOf limit d call .turned .device
 
+-- its number: 0 served, 1 idle, 101 to 105 refused
+abbrev pub numberIn : ℕ → Device → Call → ℕ
+numberIn limit d call = answerNumber (answerOf limit d call)
+
+-- the values that it reports
+abbrev pub valuesIn : ℕ → Device → Call → Values
+valuesIn limit d call = valuesOf (answerOf limit d call)
+
+-- the answer is a refusal: its number is 101 or above
 unfoldable pub isRefused : Answer → Bool
-isRefused (Refused why) = true
-isRefused Idle = false
-isRefused (Served report) = false
+isRefused answer = leb 101 (answerNumber answer)
 
 -- the answer serves ring q
 pub record ServesRing (q : ℕ) (answer : Answer) : Type 0 where
-  pub report : Report
-  pub served : answer ≡ Served report
-  pub ring : report .ring ≡ q
-
--- each slot holds a 32-bit number, as those of every device do
-unfoldable pub SlotsFit : Device → Type 0
-SlotsFit d = (n : ℕ) → slotOf d n < 2 ^ 32
+  pub served : answerNumber answer ≡ 0
+  pub ring : valuesOf answer .ring ≡ q
 
 -- how many of the calls are not refused
 unfoldable pub heard : ℕ → Device → List Call → ℕ

@@ -34,11 +34,9 @@ use Rattle.command.specs.Outcome.{outcomeNumber, isDone}
 use Rattle.command.specs.Work.{ranOutcome}
 use Rattle.command.specs.Perform.{faultOf}
 use Rattle.device.specs.declared.state.Device.{Device}
-use Rattle.device.specs.declared.turn.Report.{Report}
-use Rattle.device.specs.declared.turn.Answer.the-variants.{Served}
 use Rattle.device.specs.State.{ringOf, slotOf}
 use Rattle.device.specs.Turn.{Call, turnOf}
-use Rattle.demands.specs.Calls.{headIn, answerOf}
+use Rattle.demands.specs.Calls.{headIn, numberIn, valuesIn}
 
 -- ring q's window of the memory that a call lends
 abbrev pub windowIn : Device → Call → ℕ → List ℕ
@@ -56,10 +54,10 @@ threadsIn limit d call q =
     threadsOf (c .arg0 * c .arg1) limit (call .pack) (kernelOf (call .pack) (c .arg2)) (c .arg0) (c .arg1) (windowIn d call q)
 
 -- the turn leaves what the threads leave: the window is put back, and the outcome is theirs
-pub record Leaves (limit : ℕ) (d : Device) (call : Call) (report : Report) (threads : Dispatched) : Type 0 where
-  pub memory : turnOf limit d call .memory ≡ putBack (ringOf d (report .ring) .window .start) (threads .window) (call .memory)
+pub record Leaves (limit : ℕ) (d : Device) (call : Call) (threads : Dispatched) : Type 0 where
+  pub memory : turnOf limit d call .memory ≡ putBack (ringOf d (valuesIn limit d call .ring) .window .start) (threads .window) (call .memory)
   pub pipe : turnOf limit d call .pipe ≡ call .pipe
-  pub outcome : report .outcome ≡ ranOutcome (threads .ran)
+  pub outcome : valuesIn limit d call .outcome ≡ outcomeNumber (ranOutcome (threads .ran))
 
 -- the threads one after another
 pub record ThreadsInOrder (limit : ℕ) (pack : List ℕ) (kernel : Kernel) (groups threads : ℕ) (window : List ℕ) : Type 0 where
@@ -131,8 +129,8 @@ stopNumber why = outcomeNumber (ranOutcome (StoppedFor why))
 
 pub record StepByStep (limit : ℕ) (d : Device) (call : Call) : Type 0 where
   -- a turn that serves a DISPATCH_1D with no fault leaves what its threads leave
-  pub served : (report : Report) → answerOf limit d call ≡ Served report → Dispatches d call (report .ring)
-      → Leaves limit d call report (threadsIn limit d call (report .ring))
+  pub served : numberIn limit d call ≡ 0 → Dispatches d call (valuesIn limit d call .ring)
+      → Leaves limit d call (threadsIn limit d call (valuesIn limit d call .ring))
   -- its threads run in order
   pub threads : (kernel : Kernel) (groups threads : ℕ) (window : List ℕ) → ThreadsInOrder limit (call .pack) kernel groups threads window
   -- each takes its steps in order

@@ -6,10 +6,10 @@ use mathlib.Core.List.{List}
 use lib.ListN.{length, getD}
 use Rattle.command.specs.Header.{commandAt}
 use Rattle.device.specs.declared.state.Device.{Device}
-use Rattle.device.specs.State.{ringOf}
+use Rattle.device.specs.State.{ringOf, SlotsFit}
 use Rattle.device.specs.Ready.{readyAt}
 use Rattle.device.specs.Turn.{Call}
-use Rattle.demands.specs.Calls.{ringIn, SlotsFit, heard, EachHeard, Serves}
+use Rattle.demands.specs.Calls.{ringIn, heard, EachHeard, Serves}
 
 -- r has the bytes of b from the cursor up to the end of its command there
 pub record SameHead (b : List ℕ) (cursor : ℕ) (r : List ℕ) : Type 0 where
@@ -17,14 +17,20 @@ pub record SameHead (b : List ℕ) (cursor : ℕ) (r : List ℕ) : Type 0 where
   pub inside : cursor + commandAt b cursor .size ≤ length r
 
 -- ring q is ready with the bytes b, and keeps them in each call that is not refused; of four such calls one serves it
-unfoldable pub FourTurns : Type 0
-FourTurns =
-    (limit : ℕ) (d : Device) (q : ℕ) (b : List ℕ) (calls : List Call) → q < 4 → SlotsFit d → readyAt d q b ≡ true
+abbrev pub FourTurnsFrom : Device → Type 0
+FourTurnsFrom d =
+    (limit q : ℕ) (b : List ℕ) (calls : List Call) → q < 4 → readyAt d q b ≡ true
     → EachHeard (λ call. ringIn call q ≡ b) limit d calls → 4 ≤ heard limit d calls → Serves limit q (ringOf d q .cursor) d calls
 
+unfoldable pub FourTurns : Type 0
+FourTurns = (d : Device) → SlotsFit d → FourTurnsFrom d
+
 -- it is enough that the bytes of its head command stay
-unfoldable pub FourTurnsByHead : Type 0
-FourTurnsByHead =
-    (limit : ℕ) (d : Device) (q : ℕ) (b : List ℕ) (calls : List Call) → q < 4 → SlotsFit d → readyAt d q b ≡ true
+abbrev pub FourTurnsByHeadFrom : Device → Type 0
+FourTurnsByHeadFrom d =
+    (limit q : ℕ) (b : List ℕ) (calls : List Call) → q < 4 → readyAt d q b ≡ true
     → EachHeard (λ call. SameHead b (ringOf d q .cursor) (ringIn call q)) limit d calls → 4 ≤ heard limit d calls
     → Serves limit q (ringOf d q .cursor) d calls
+
+unfoldable pub FourTurnsByHead : Type 0
+FourTurnsByHead = (d : Device) → SlotsFit d → FourTurnsByHeadFrom d

@@ -12,12 +12,11 @@ use Rattle.command.specs.Header.{commandAt, isWhole}
 use Rattle.command.specs.Outcome.{isDone}
 use Rattle.device.specs.declared.state.Window.{Window}
 use Rattle.device.specs.declared.state.Device.{Device}
-use Rattle.device.specs.declared.turn.Answer.the-variants.{Idle}
 use Rattle.device.specs.State.{freshDevice}
 use Rattle.device.specs.Ready.{readyWith}
 use Rattle.device.specs.Turn.{Call}
 use Rattle.device.specs.Left.{sumOf}
-use Rattle.demands.specs.Calls.{answerOf, leftBy, EachHeard}
+use Rattle.demands.specs.Calls.{leftBy, numberIn, EachHeard}
 use Rattle.demands.specs.Bounded.{Lends, taken}
 
 -- where the n-th command of a ring begins
@@ -63,5 +62,5 @@ unfoldable pub IdleIsDone : Type 0
 IdleIsDone =
     (limit : ℕ) (w0 w1 w2 w3 : Window) (R : ℕ → List ℕ) (calls : List Call) (last : Call)
     → EachHeard (Lends R) limit (freshDevice w0 w1 w2 w3) calls → Lends R last
-    → answerOf limit (lastOf limit (freshDevice w0 w1 w2 w3) calls) last ≡ Idle
+    → numberIn limit (lastOf limit (freshDevice w0 w1 w2 w3) calls) last ≡ 1
     → (n : ℕ → ℕ) → Order R n → (q : ℕ) → n q ≤ taken limit (freshDevice w0 w1 w2 w3) calls q

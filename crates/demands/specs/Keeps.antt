@@ -5,25 +5,22 @@ use mathlib.Core.Bool.{true, false}
 use mathlib.Core.List.{List}
 use mathlib.Core.Logic.{_⊎_}
 use lib.ListN.{length, getD}
-use Rattle.command.specs.Outcome.{outcomeNumber}
 use Rattle.device.specs.declared.state.Window.{Window}
 use Rattle.device.specs.declared.state.Device.{Device}
-use Rattle.device.specs.declared.refusal.Refusal.{Refusal}
-use Rattle.device.specs.declared.refusal.Refusal.the-variants.{Memory}
-use Rattle.device.specs.declared.fresh.Making.the-variants.{Made, Refused}
-use Rattle.device.specs.declared.turn.Report.{Report}
-use Rattle.device.specs.declared.turn.Answer.the-variants.{Idle, Served}
+use Rattle.device.specs.declared.fresh.Fresh.{Fresh}
 use Rattle.device.specs.State.{emptyWindow, freshDevice, ringOf}
-use Rattle.device.specs.Refusal.{refusalNumber, memoryFits}
+use Rattle.device.specs.Refusal.{memoryFits}
+use Rattle.device.specs.Answer.{noValues, valuesOf, makingNumber}
 use Rattle.device.specs.Fresh.{freshOf}
 use Rattle.device.specs.Turn.{Call, After, turnOf}
-use Rattle.demands.specs.Calls.{answerOf, isRefused}
+use Rattle.demands.specs.Calls.{numberIn, valuesIn}
 
--- device, memory and pipe are as they were
+-- device, memory and pipe are as they were, and nothing is reported: zeros and no IRQ
 pub record Same (d : Device) (call : Call) (after : After) : Type 0 where
   pub device : after .turned .device ≡ d
   pub memory : after .memory ≡ call .memory
   pub pipe : after .pipe ≡ call .pipe
+  pub values : valuesOf (after .turned .answer) ≡ noValues
 
 -- memory, pipe and every frame are as they were
 pub record SameBytes (d : Device) (call : Call) (after : After) : Type 0 where
@@ -43,29 +40,33 @@ pub record PipeKept (words : ℕ) (pipe₀ pipe₁ : List ℕ) : Type 0 where
 -- of a turn on any input
 pub record Keeps (limit : ℕ) (d : Device) (call : Call) : Type 0 where
   -- a refused call changes nothing
-  pub refused : isRefused (answerOf limit d call) ≡ true → Same d call (turnOf limit d call)
+  pub refused : 101 ≤ numberIn limit d call → Same d call (turnOf limit d call)
   -- an idle one neither
-  pub idle : answerOf limit d call ≡ Idle → Same d call (turnOf limit d call)
+  pub idle : numberIn limit d call ≡ 1 → Same d call (turnOf limit d call)
   -- outcomes 1 to 10 change no memory, pipe or frame
-  pub faults : (report : Report) → answerOf limit d call ≡ Served report → 1 ≤ outcomeNumber (report .outcome)
-      → outcomeNumber (report .outcome) ≤ 10 → SameBytes d call (turnOf limit d call)
+  pub faults : numberIn limit d call ≡ 0 → 1 ≤ valuesIn limit d call .outcome → valuesIn limit d call .outcome ≤ 10
+      → SameBytes d call (turnOf limit d call)
   -- no byte outside the served ring's window changes
-  pub outside : (report : Report) → answerOf limit d call ≡ Served report → (i : ℕ) → OutsideOf (ringOf d (report .ring) .window) i
+  pub outside : numberIn limit d call ≡ 0 → (i : ℕ) → OutsideOf (ringOf d (valuesIn limit d call .ring) .window) i
       → getD (turnOf limit d call .memory) i 0 ≡ getD (call .memory) i 0
   -- the memory keeps its length
   pub long : length (turnOf limit d call .memory) ≡ length (call .memory)
   -- the pipe keeps its length, and its bytes past the words read
-  pub pipe : (report : Report) → answerOf limit d call ≡ Served report → PipeKept (report .words) (call .pipe) (turnOf limit d call .pipe)
+  pub pipe : numberIn limit d call ≡ 0 → PipeKept (valuesIn limit d call .words) (call .pipe) (turnOf limit d call .pipe)
 
 unfoldable pub TurnKeeps : Type 0
 TurnKeeps = (limit : ℕ) (d : Device) (call : Call) → Keeps limit d call
 
--- making a device over a memory of that length: where the windows do not fit it can only give 101, with an empty device
+-- the making gives this device and this number
+pub record Gives (fresh : Fresh) (d : Device) (number : ℕ) : Type 0 where
+  pub device : fresh .device ≡ d
+  pub answer : makingNumber (fresh .answer) ≡ number
+
+-- making a device over a memory of that length: it is made, or where the windows do not fit it gives 101 and an empty device
 pub record Making (memory : ℕ) (w0 w1 w2 w3 : Window) : Type 0 where
-  pub made : memoryFits memory w0 w1 w2 w3 ≡ true → freshOf memory w0 w1 w2 w3 ≡ record { device = freshDevice w0 w1 w2 w3; answer = Made }
+  pub made : memoryFits memory w0 w1 w2 w3 ≡ true → Gives (freshOf memory w0 w1 w2 w3) (freshDevice w0 w1 w2 w3) 0
   pub refused : memoryFits memory w0 w1 w2 w3 ≡ false
-      → freshOf memory w0 w1 w2 w3 ≡ record { device = freshDevice emptyWindow emptyWindow emptyWindow emptyWindow; answer = Refused Memory }
-  pub only : (why : Refusal) → freshOf memory w0 w1 w2 w3 .answer ≡ Refused why → refusalNumber why ≡ 101
+      → Gives (freshOf memory w0 w1 w2 w3) (freshDevice emptyWindow emptyWindow emptyWindow emptyWindow) 101
 
 unfoldable pub FreshMakes : Type 0
 FreshMakes = (memory : ℕ) (w0 w1 w2 w3 : Window) → Making memory w0 w1 w2 w3

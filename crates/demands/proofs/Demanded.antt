@@ -1,0 +1,23 @@
+-- What the type of a device gives is all that the demands ask of one.
+-- Assumes nothing.
+use Rattle.device.specs.declared.state.Device.{Device}
+use Rattle.device.specs.State.{ByType}
+use Rattle.demands.specs.FourTurns.{FourTurns, FourTurnsByHead}
+use Rattle.demands.specs.Keeps.{TurnKeeps}
+use Rattle.demands.specs.Reports.{TurnReports}
+use Rattle.demands.specs.Bounded.{TurnsBounded, IdleInTime}
+use Rattle.demands.specs.EachStep.{EachStep}
+use Rattle.demands.specs.Demanded.{Demanded}
+use Rattle.demands.proofs.Demands as demands
+
+pub demanded : (d : Device) → ByType d → Demanded d
+unfolding TurnKeeps TurnReports EachStep FourTurns FourTurnsByHead TurnsBounded IdleInTime
+demanded d typed = record {
+  keeps = λ limit call. demands.turn-keeps limit d call;
+  reports = demands.turn-reports d (typed .shaped) (typed .slots-fit);
+  steps = λ limit call. demands.each-step limit d call;
+  four-turns = demands.four-turns d (typed .slots-fit);
+  four-turns-by-head = demands.four-turns-by-head d (typed .slots-fit);
+  bounded = demands.turns-bounded d (typed .shaped);
+  idle-in-time = demands.idle-in-time d (typed .shaped);
+}

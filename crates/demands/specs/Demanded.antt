@@ -1,0 +1,21 @@
+-- The demands on a device, with nothing asked of it: the contract of `of_every_device` says them of every `Device`.
+use Prim.Native.Nat.{ℕ}
+use Rattle.device.specs.declared.state.Device.{Device}
+use Rattle.device.specs.Turn.{Call}
+use Rattle.demands.specs.Keeps.{Keeps}
+use Rattle.demands.specs.Reports.{ReportsFrom}
+use Rattle.demands.specs.EachStep.{StepByStep}
+use Rattle.demands.specs.FourTurns.{FourTurnsFrom, FourTurnsByHeadFrom}
+use Rattle.demands.specs.Bounded.{BoundedFrom, IdleInTimeFrom}
+
+pub record Demanded (d : Device) : Type 0 where
+  -- demand 1: what a turn leaves as it was
+  pub keeps : (limit : ℕ) (call : Call) → Keeps limit d call
+  -- demand 2: what is reported, and each step of each thread
+  pub reports : ReportsFrom d
+  pub steps : (limit : ℕ) (call : Call) → StepByStep limit d call
+  -- demand 3: a ready ring is served within four turns, and turns over unchanging rings come to an end
+  pub four-turns : FourTurnsFrom d
+  pub four-turns-by-head : FourTurnsByHeadFrom d
+  pub bounded : BoundedFrom d
+  pub idle-in-time : IdleInTimeFrom d
