@@ -40,5 +40,5 @@ module _ (limit : ℕ) (d : Device) (call : Call) where
 
 pub turn-follows : TurnFollows
 unfolding turnCall calledOf followed either
-turn-follows d report call formed six =
+turn-follows d formed report call six =
     rw (eq-eqb (length (encode d)) 372 (encode-length d formed), eq-eqb (length report) 24 six, decode-encode d formed, turn-kept stepLimit d call)

@@ -6,7 +6,7 @@ use mathlib.Core.List.{List, [], _∷_, _++_}
 use Prim.Native.Nat.{ℕ, _^_, _<_}
 use native.Mathlib.Omega.{arith}
 use lib.Dec.{eqb, lit<}
-use lib.ListN.{length}
+use lib.ListN.{length, getD}
 use borrow.Author.Tests.{eqb-true, eqb-false}
 use Rattle.memory.proofs.Places.{word-fits}
 use Rattle.command.specs.declared.header.Command.{Command}
@@ -27,11 +27,12 @@ use Rattle.device.specs.declared.refusal.Verdict.{Verdict}
 use Rattle.device.specs.declared.refusal.Verdict.the-variants.{Sound, Refused}
 use Rattle.device.specs.declared.ready.Picked.{Picked}
 use Rattle.device.specs.declared.ready.Picked.the-variants.{Ring as RingOf, Nobody}
-use Rattle.device.specs.State.{Shaped, emptyWindow, freshDevice, ringOf, withRing, withSlot, withMarker}
+use Rattle.device.specs.Slots.{emitted, emittedIn}
+use Rattle.device.specs.State.{Shaped, emptyWindow, freshDevice, ringOf, withRing, withSlots, withMarker}
 use Rattle.device.specs.Refusal.{memoryFits}
 use Rattle.device.specs.Ready.{bytesOfRing, pickOf}
 use Rattle.device.specs.Fresh.{freshOf}
-use Rattle.device.specs.Turn.{Call, emitted, emitTo, unchanged, ringAfter, deviceAfter, finished, servedOf, pickedOf, judgedOf, verdictOn, turnOf}
+use Rattle.device.specs.Turn.{Call, emitTo, unchanged, ringAfter, deviceAfter, finished, servedOf, pickedOf, judgedOf, verdictOn, turnOf}
 use Rattle.device.proofs.Seeks.{next-below}
 use Rattle.device.proofs.Verdicts.{each-of-four, servable}
 use Rattle.device.proofs.Wholes.{whole-inside}
@@ -60,7 +61,7 @@ frame-in r h = record { held = h .at 3; base = h .at 4; stride = h .at 5; format
 
 -- a device whose rings, slots and marker fit
 module _ (d : Device) where
-  formed : Shaped d → ((q : ℕ) → q < 4 → Fits (ringWords (ringOf d q))) → Fits (d .slots) → d .marker < 2 ^ 32
+  pub formed : Shaped d → ((q : ℕ) → q < 4 → Fits (ringWords (ringOf d q))) → Fits (d .slots) → d .marker < 2 ^ 32
       → Formed d
   unfolding wordsOf ringsWords
   formed shaped rings slots marker = record {
@@ -114,10 +115,10 @@ module _ (ring : List ℕ) (bytes : OfBytes ring) (cursor slot : ℕ) (window : 
       (λ faulty. h)
 
 -- an emit leaves numbers that fit
-emit-fits : (b : Bool) (d : Device) (n slot : ℕ) → Fits (d .slots) → Fits (emitTo b d n slot .slots)
-unfolding emitTo either withSlot
-emit-fits true d n slot h = fits-set (d .slots) n (emitted slot) h (omega arith)
-emit-fits false d n slot h = h
+emit-fits : (b : Bool) (d : Device) (n : ℕ) → Fits (d .slots) → Fits (emitTo b d n .slots)
+unfolding emitTo either withSlots emittedIn
+emit-fits true d n h = fits-set (d .slots) n (emitted (getD (d .slots) n 0)) h (omega arith)
+emit-fits false d n h = h
 
 -- so a served command leaves a formed device
 module _ (d : Device) (q : ℕ) (c : Command) (p : Performed) (is : Formed d) (four : q < 4) (cursor : ringAfter (ringOf d q) c (p .frame) .cursor < 2 ^ 32)
@@ -139,7 +140,7 @@ module _ (d : Device) (q : ℕ) (c : Command) (p : Performed) (is : Formed d) (f
   unfolding deviceAfter withMarker withRing
   after-formed =
       formed (deviceAfter d q c p) (after-shaped d q c p (is .shaped)) ring-after
-      (emit-fits (emits c (p .outcome)) (withRing d q (ringAfter (ringOf d q) c (p .frame))) (c .rdst) _ (slots-in d is))
+      (emit-fits (emits c (p .outcome)) (withRing d q (ringAfter (ringOf d q) c (p .frame))) (c .rdst) (slots-in d is))
       (omega (arith, next-below q four))
 
 module _ (limit : ℕ) (d : Device) (call : Call) (is : Formed d) (bytes : RingsOfBytes call) where
@@ -161,7 +162,7 @@ module _ (limit : ℕ) (d : Device) (call : Call) (is : Formed d) (bytes : Rings
 
 pub turn-forms : TurnForms
 unfolding turnOf
-turn-forms limit d call is bytes = judged-formed limit d call is bytes (verdictOn d call) refl
+turn-forms d is limit call bytes = judged-formed limit d call is bytes (verdictOn d call) refl
 
 -- a window whose two numbers fit
 abbrev WindowFits : Window → Type 0

@@ -6,3 +6,4 @@ pub mod Follows
 pub mod OneAnswer
 pub mod Fits
 pub mod Forms
+pub mod Imaged

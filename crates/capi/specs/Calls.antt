@@ -12,10 +12,10 @@ use Rattle.device.specs.declared.fresh.Fresh.{Fresh}
 use Rattle.device.specs.declared.turn.Answer.{Answer}
 use Rattle.device.specs.declared.turn.Answer.the-variants.{Refused as RefusedFor, Idle, Served}
 use Rattle.device.specs.Fresh.{freshOf}
-use Rattle.device.specs.Answer.{makingNumber}
+use Rattle.device.specs.Answer.{answerNumber, makingNumber}
 use Rattle.device.specs.Turn.{Call, After, turnOf}
 use Rattle.capi.specs.Image.{encode, decode, windowAt}
-use Rattle.capi.specs.Report.{reportBytes, answerWord}
+use Rattle.capi.specs.Report.{reportBytes}
 
 -- an image and an answer
 pub record Freshened : Type 0 where
@@ -73,7 +73,7 @@ calledOf image a = record {
   memory = a .memory;
   pipe = a .pipe;
   report = reportBytes (a .turned .answer);
-  answer = answerWord (a .turned .answer);
+  answer = answerNumber (a .turned .answer);
 }
 
 -- nothing is changed

@@ -6,9 +6,10 @@ use lib.ListN.{length, getD}
 use Rattle.kernel.specs.Run.{stepLimit}
 use Rattle.device.specs.declared.state.Device.{Device}
 use Rattle.device.specs.Ready.{bytesOfRing}
+use Rattle.device.specs.Answer.{answerNumber}
 use Rattle.device.specs.Turn.{Call, After, turnOf}
 use Rattle.capi.specs.Image.{encode}
-use Rattle.capi.specs.Report.{reportBytes, answerWord}
+use Rattle.capi.specs.Report.{reportBytes}
 use Rattle.capi.specs.Calls.{Called, freshFor, turnCall}
 use Rattle.capi.specs.Inverse.{Formed}
 
@@ -19,12 +20,15 @@ followed a = record {
   memory = a .memory;
   pipe = a .pipe;
   report = reportBytes (a .turned .answer);
-  answer = answerWord (a .turned .answer);
+  answer = answerNumber (a .turned .answer);
 }
 
 -- served or not, a call over the image of a device leaves the image of the device that its turn leaves
+abbrev pub FollowsFrom : Device → Type 0
+FollowsFrom d = (report : List ℕ) (call : Call) → length report ≡ 24 → turnCall (encode d) report call ≡ followed (turnOf stepLimit d call)
+
 abbrev pub TurnFollows : Type 0
-TurnFollows = (d : Device) (report : List ℕ) (call : Call) → Formed d → length report ≡ 24 → turnCall (encode d) report call ≡ followed (turnOf stepLimit d call)
+TurnFollows = (d : Device) → Formed d → FollowsFrom d
 
 -- lent bytes are bytes
 abbrev pub OfBytes : List ℕ → Type 0
@@ -39,5 +43,8 @@ abbrev pub FreshForms : Type 0
 FreshForms = (windows : List ℕ) (memory : ℕ) → OfBytes windows → Formed (freshFor windows memory .device)
 
 -- and so is the device that a turn of a formed one leaves
+abbrev pub FormsFrom : Device → Type 0
+FormsFrom d = (limit : ℕ) (call : Call) → RingsOfBytes call → Formed (turnOf limit d call .turned .device)
+
 abbrev pub TurnForms : Type 0
-TurnForms = (limit : ℕ) (d : Device) (call : Call) → Formed d → RingsOfBytes call → Formed (turnOf limit d call .turned .device)
+TurnForms = (d : Device) → Formed d → FormsFrom d

@@ -3,22 +3,14 @@ use Prim.Native.Nat.{ℕ}
 use mathlib.Core.Bool.{cond}
 use mathlib.Core.List.{List, [], _∷_}
 use Rattle.device.specs.declared.turn.Answer.{Answer}
-use Rattle.device.specs.declared.turn.Answer.the-variants.{Refused, Idle, Served}
-use Rattle.device.specs.Refusal.{refusalNumber}
-use Rattle.device.specs.Answer.{valuesOf}
+use Rattle.device.specs.Answer.{answerNumber, valuesOf}
 use Rattle.capi.specs.Image.{bytesOf}
 
--- 0 served, 1 idle, or the refusal's number
-unfoldable pub answerWord : Answer → ℕ
-answerWord (Refused why) = refusalNumber why
-answerWord Idle = 1
-answerWord (Served r) = 0
-
--- that word, then the ring, outcome, fence, words read and IRQ that are reported
+-- the answer's number, then the ring, outcome, fence, words read and IRQ that are reported
 unfoldable pub reportWords : Answer → List ℕ
 reportWords answer =
     let v = valuesOf answer in
-    answerWord answer ∷ v .ring ∷ v .outcome ∷ v .fence ∷ v .words ∷ cond (v .irq) 1 0 ∷ []
+    answerNumber answer ∷ v .ring ∷ v .outcome ∷ v .fence ∷ v .words ∷ cond (v .irq) 1 0 ∷ []
 
 -- its bytes
 unfoldable pub reportBytes : Answer → List ℕ

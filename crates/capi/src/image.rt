@@ -53,7 +53,7 @@ fn format_of(frame: Frame) -> u32
     }
 }
 
-fn ring_words(ring: Ring) -> [u32; 7]
+pub fn ring_words(ring: Ring) -> [u32; 7]
     ensures { λ r. ⌜ r ≡ ringWords ring ⌝ }
 {
     let window = ring.window;

@@ -2,6 +2,7 @@
 ghost use Rattle.device.specs.Turn.{callOf};
 ghost use Rattle.capi.specs.Calls.{freshCall, Freshens, turnCall, Leaves};
 
+pub mod by_type;
 pub mod calls;
 pub mod image;
 pub mod lent;

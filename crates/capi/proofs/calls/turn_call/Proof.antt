@@ -5,10 +5,11 @@ use mathlib.Core.List.{List}
 use Prim.Native.Nat.{ℕ}
 use lib.ListN.{length, getD}
 use Rattle.device.specs.declared.turn.Answer.{Answer}
+use Rattle.device.specs.Answer.{answerNumber}
 use Rattle.capi.proofs.WordBytes.{words-whole}
 use native.Mathlib.Omega.{arith}
 use Rattle.capi.specs.Calls.{turnCall, untouched, calledOf}
-use Rattle.capi.specs.Report.{answerWord, reportWords, reportBytes}
+use Rattle.capi.specs.Report.{reportWords, reportBytes}
 use Rattle.command.specs.Choice.{either}
 use borrow.Author.Tests.{eq-eqb, ne-eqb}
 use borrow.Author.Needs.{needs}
@@ -16,7 +17,7 @@ use Rattle.capi.proofs.calls.turn_call.Statement.{statement}
 use Rattle.capi.proofs.calls.turn_call.Tie as tie
 
 -- a report's first word is the answer's
-first-word : (answer : Answer) (words : List ℕ) → words ≡ reportWords answer → getD words 0 0 ≡ answerWord answer
+first-word : (answer : Answer) (words : List ℕ) → words ≡ reportWords answer → getD words 0 0 ≡ answerNumber answer
 unfolding reportWords
 first-word answer words e = rw e
 

@@ -1,0 +1,25 @@
+-- `capi::by_type::of_lent_bytes` meets its contract. Assumes nothing.
+use mathlib.Core.Path.{_≡_}
+use denote.Ref.{now}
+use lib.ListN.{getD, List·getD-eq-default}
+use native.Mathlib.Nat.{le-trans}
+use native.Mathlib.Omega.{arith}
+use borrow.Author.Needs.{needs}
+use Rattle.capi.proofs.by_type.of_lent_bytes.Statement.{statement}
+use Rattle.capi.proofs.by_type.of_lent_bytes.Tie as tie
+
+shared-slice-read-result : tie.Need-shared-slice-read-result
+shared-slice-read-result c = search needs
+
+returns : tie.Need-returns
+returns c = λ i. omega (arith, c .shared-slice-known .given i)
+
+-- there are none: what is past the end reads 0
+returns-2 : tie.Need-returns-2
+returns-2 c = λ i.
+    let bytes = now (c .before .args .bytes) in
+    let none : _≡_ (getD bytes i 0) 0 = List·getD-eq-default bytes 0 (omega arith) in
+    omega (arith, none)
+
+pub of-lent-bytes-spec : {M : Type 1} → statement M
+of-lent-bytes-spec = tie.close (tie.spec shared-slice-read-result returns returns-2)

@@ -1,0 +1,18 @@
+-- What a device and its image have, with nothing asked of the device: the contract of `of_every_device` says it of every
+-- `Device`.
+use mathlib.Core.Path.{_≡_}
+use lib.ListN.{length}
+use Rattle.device.specs.declared.state.Device.{Device}
+use Rattle.capi.specs.Image.{encode, decode}
+use Rattle.capi.specs.Inverse.{Formed}
+use Rattle.capi.specs.Follows.{FollowsFrom, FormsFrom}
+
+pub record Imaged (d : Device) : Type 0 where
+  -- four rings, 64 slots, and numbers of 32 bits
+  pub formed : Formed d
+  -- its image has 372 bytes, and read back it is the device
+  pub long : length (encode d) ≡ 372
+  pub back : decode (encode d) ≡ d
+  -- a call over its image is its turn, which leaves a formed device
+  pub follows : FollowsFrom d
+  pub forms : FormsFrom d
