@@ -4,6 +4,7 @@ pub mod Works
 pub mod Walks
 pub mod FourTurns
 pub mod Keeps
+pub mod Sound
 pub mod Emitting
 pub mod Reports
 pub mod Sums

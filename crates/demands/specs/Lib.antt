@@ -7,3 +7,4 @@ pub mod Idle
 pub mod Table
 pub mod OneAnswer
 pub mod EachStep
+pub mod Sound
