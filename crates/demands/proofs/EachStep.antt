@@ -2,22 +2,29 @@
 -- Assumes nothing.
 use mathlib.Core.Path.{_≡_, refl, sym, ap, _∙_}
 use mathlib.Core.List.{List}
+use mathlib.Core.Logic.{_↔_}
 use Prim.Native.Nat.{ℕ}
 use native.Mathlib.Numerals.{add-one}
+use native.Mathlib.Omega.{arith}
 use Rattle.memory.specs.Address.{ifInside}
 use Rattle.memory.specs.Access.{loadOf, storeOf}
 use Rattle.memory.specs.Quad.{loadQuadOf, storeQuadOf}
+use Rattle.instruction.specs.declared.effect.Stop.the-variants.{NotListed, OffTheKernel, OutsideTheWindow, OutOfSteps}
 use Rattle.instruction.specs.Decode.{decoded}
 use Rattle.instruction.specs.Effect.{loadedEffect, loadedQuadEffect, effectOf}
 use Rattle.kernel.specs.declared.pack.Kernel.{Kernel}
 use Rattle.kernel.specs.declared.thread.Thread.{Thread}
+use Rattle.kernel.specs.declared.dispatch.Ran.{Ran}
+use Rattle.kernel.specs.declared.dispatch.Ran.the-variants.{Done, Stopped as StoppedFor}
+use Rattle.kernel.specs.Thread.{started}
 use Rattle.kernel.specs.Step.{stops, branched, afterStore, applied, executed}
 use Rattle.kernel.specs.Dispatch.{ifDone, threadMore, dispatchOf}
 use Rattle.kernel.proofs.Runs.{ended-rests, stopped-rests, no-step, one-step-more}
 use Rattle.kernel.proofs.Steps.{at-the-limit, off-the-end, instruction-done}
 use Rattle.kernel.proofs.StepByStep.{more-at-rest, one-more, run-is-steps}
 use Rattle.kernel.proofs.Dispatches.{no-thread, one-thread-more}
-use Rattle.kernel.proofs.Threads.{thread-number, one-more-thread}
+use Rattle.kernel.proofs.StepLimit.{running-at-the-limit, out-of-steps, wfi-at-the-limit}
+use Rattle.kernel.proofs.Threads.{starts-fresh, thread-number, one-more-thread}
 use Rattle.command.specs.Outcome.{outcomeNumber}
 use Rattle.command.specs.Work.{leaves, ranOutcome, dispatchedBy, afterDispatch}
 use Rattle.command.proofs.Works.{work-dispatch}
@@ -28,8 +35,9 @@ use Rattle.device.specs.declared.turn.Answer.the-variants.{Served}
 use Rattle.device.specs.State.{ringOf, slotOf}
 use Rattle.device.specs.Turn.{Call, servedOf}
 use Rattle.demands.specs.Calls.{ringIn, headIn, answerOf}
-use Rattle.demands.specs.EachStep.{windowIn, Dispatches, threadsIn, Leaves, ThreadsInOrder, StepsInOrder, StepByRule, EachStep}
+use Rattle.demands.specs.EachStep.{windowIn, Dispatches, threadsIn, kernelIn, Leaves, ThreadsInOrder, StepsInOrder, StepByRule, LimitTied, FirstOutOfSteps, EachStep}
 use Rattle.demands.proofs.Turns.{workIn, was-served}
+use Rattle.demands.proofs.OutOfSteps.{first-out-of-steps}
 
 -- the work of a DISPATCH_1D with no fault is what its threads leave
 dispatch-work : (limit : ℕ) (d : Device) (call : Call) (q : ℕ) → Dispatches d call q
@@ -85,6 +93,40 @@ step-by-rule limit pack kernel t window = record {
   load-quad = λ vd x y vectors e. rw e;
 }
 
+-- a thread at its start is tied to the limit
+limit-tied : (limit : ℕ) (pack : List ℕ) (kernel : Kernel) (g j threads groups : ℕ) (window : List ℕ)
+    → LimitTied limit pack kernel (started g j threads groups) window
+limit-tied limit pack kernel g j threads groups window =
+    let t = started g j threads groups in
+    let fresh = starts-fresh g j threads groups in
+    record {
+      given = out-of-steps limit pack kernel t window fresh;
+      left = running-at-the-limit limit pack kernel t window fresh;
+      wfi = wfi-at-the-limit limit pack kernel t window fresh;
+    }
+
+-- the number 14 is that of a dispatch out of steps
+fourteen-is : (r : Ran) → (outcomeNumber (ranOutcome r) ≡ 14) ↔ (r ≡ StoppedFor OutOfSteps)
+unfolding outcomeNumber ranOutcome
+fourteen-is r = (there r, λ e. rw e)
+  where
+    there : (r : Ran) → outcomeNumber (ranOutcome r) ≡ 14 → r ≡ StoppedFor OutOfSteps
+    there Done e = absurd (omega arith)
+    there (StoppedFor NotListed) e = absurd (omega arith)
+    there (StoppedFor OffTheKernel) e = absurd (omega arith)
+    there (StoppedFor OutsideTheWindow) e = absurd (omega arith)
+    there (StoppedFor OutOfSteps) e = refl
+
+dispatch-fourteen : (limit : ℕ) (d : Device) (call : Call) (report : Report) → answerOf limit d call ≡ Served report → Dispatches d call (report .ring)
+    → (outcomeNumber (report .outcome) ≡ 14)
+    ↔ FirstOutOfSteps limit (call .pack) (kernelIn d call (report .ring)) (headIn d call (report .ring) .arg0) (headIn d call (report .ring) .arg1)
+    (windowIn d call (report .ring))
+dispatch-fourteen limit d call report e is =
+    let c = headIn d call (report .ring) in
+    let number = fourteen-is (threadsIn limit d call (report .ring) .ran) in
+    let first = first-out-of-steps limit (call .pack) (kernelIn d call (report .ring)) (c .arg0) (c .arg1) (windowIn d call (report .ring)) in
+    rw (dispatch-served limit d call report e is .outcome) (λ n. first .0 (number .0 n), λ f. number .1 (first .1 f))
+
 pub each-step : EachStep
 unfolding EachStep outcomeNumber ranOutcome
 each-step limit d call = record {
@@ -92,5 +134,7 @@ each-step limit d call = record {
   threads = threads-in-order limit (call .pack);
   steps = steps-in-order limit (call .pack);
   step = step-by-rule limit (call .pack);
+  limits = λ report e is g j g-is j-is. limit-tied limit (call .pack) _ g j _ _;
+  fourteen = dispatch-fourteen limit d call;
   numbers = (refl, refl, refl, refl);
 }

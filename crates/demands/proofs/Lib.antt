@@ -15,4 +15,5 @@ pub mod Idle
 pub mod Demands
 pub mod Table
 pub mod OneAnswer
+pub mod OutOfSteps
 pub mod EachStep
