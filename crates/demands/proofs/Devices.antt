@@ -36,7 +36,7 @@ put-below k (x ∷ xs) zero v (suc m) h new = h
 put-below k (x ∷ xs) (suc n) v zero h new = h
 put-below k (x ∷ xs) (suc n) v (suc m) h new = put-below k xs n v m h new
 
--- what holds of a ring at its place, and of what stood at another, holds of every place once the ring is put there
+-- what holds of a ring put in place q, if that is place n, and of what place n held, holds of place n after it
 put-each : (P : Ring → Type 0) (xs : List Ring) (q : ℕ) (ring : Ring) (n : ℕ) → (n ≡ q → P ring) → P (getD xs n (freshRing emptyWindow))
     → P (getD (set xs q ring) n (freshRing emptyWindow))
 put-each P [] q ring n new old = old
@@ -75,7 +75,7 @@ module _ (d : Device) (q : ℕ) (c : Command) (p : Performed) where
   unfolding deviceAfter withMarker withRing slotOf SlotsFit
   after-fits fit = emit-below (emits c (p .outcome)) (withRing d q (ringAfter (ringOf d q) c (p .frame))) (c .rdst) (slotOf d (c .rdst)) fit
 
-  -- what holds of the served ring now, and held of another, holds of every ring
+  -- what holds of the served ring after its command, if it is ring n, and held of ring n, holds of ring n
   pub after-ring : (P : Ring → Type 0) (n : ℕ) → (n ≡ q → P (ringAfter (ringOf d q) c (p .frame))) → P (ringOf d n) → P (ringOf (deviceAfter d q c p) n)
   unfolding ringOf
   after-ring P n new old = rw (rings-after d q c p) (put-each P (d .rings) q (ringAfter (ringOf d q) c (p .frame)) n new old)
