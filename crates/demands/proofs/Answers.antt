@@ -1,11 +1,10 @@
 -- What the number of an answer tells of it.
 -- Assumes nothing.
 use mathlib.Core.Path.{_≡_, refl}
-use mathlib.Core.Bool.{true, _&&_}
+use mathlib.Core.Bool.{true}
 use Prim.Native.Nat.{ℕ, _≤_}
 use native.Mathlib.Omega.{arith}
-use lib.Dec.{eqb}
-use borrow.Author.Tests.{le-leb, leb-true, ne-eqb}
+use borrow.Author.Tests.{le-leb, ne-eqb}
 use Rattle.command.specs.Choice.{either}
 use Rattle.device.specs.declared.refusal.Refusal.{Refusal}
 use Rattle.device.specs.declared.refusal.Refusal.the-variants.{Memory, State, Rings, Pipe, Pack}
@@ -13,7 +12,7 @@ use Rattle.device.specs.declared.turn.Report.{Report}
 use Rattle.device.specs.declared.turn.Answer.{Answer}
 use Rattle.device.specs.declared.turn.Answer.the-variants.{Refused, Idle, Served}
 use Rattle.device.specs.Refusal.{refusalNumber}
-use Rattle.device.specs.Answer.{answerNumber, valuesOf}
+use Rattle.device.specs.Answer.{answerNumber}
 use Rattle.demands.specs.Calls.{isRefused}
 use Rattle.demands.specs.Bounded.{served}
 
@@ -28,10 +27,6 @@ refusal-least Pack = omega arith
 pub is-refused : (why : Refusal) → isRefused (Refused why) ≡ true
 unfolding isRefused answerNumber
 is-refused why = le-leb 101 (refusalNumber why) (refusal-least why)
-
-pub refused-number : (a : Answer) → isRefused a ≡ true → 101 ≤ answerNumber a
-unfolding isRefused
-refused-number a e = leb-true 101 (answerNumber a) e
 
 -- 0 is a served turn's number alone, and 1 an idle one's
 pub served-report : (a : Answer) → answerNumber a ≡ 0 → (report : Report) × (a ≡ Served report)

@@ -4,6 +4,7 @@ use Rattle.device.specs.declared.state.Device.{Device}
 use Rattle.device.specs.State.{ByType}
 use Rattle.demands.specs.FourTurns.{FourTurns, FourTurnsByHead}
 use Rattle.demands.specs.Keeps.{TurnKeeps}
+use Rattle.demands.specs.Sound.{TurnStaysSound}
 use Rattle.demands.specs.Reports.{TurnReports}
 use Rattle.demands.specs.Bounded.{TurnsBounded, IdleInTime}
 use Rattle.demands.specs.EachStep.{EachStep}
@@ -11,9 +12,10 @@ use Rattle.demands.specs.Demanded.{Demanded}
 use Rattle.demands.proofs.Demands as demands
 
 pub demanded : (d : Device) → ByType d → Demanded d
-unfolding TurnKeeps TurnReports EachStep FourTurns FourTurnsByHead TurnsBounded IdleInTime
+unfolding TurnKeeps TurnStaysSound TurnReports EachStep FourTurns FourTurnsByHead TurnsBounded IdleInTime
 demanded d typed = record {
   keeps = λ limit call. demands.turn-keeps limit d call;
+  stays-sound = λ limit call. demands.turn-stays-sound limit d call;
   reports = demands.turn-reports d (typed .shaped) (typed .slots-fit);
   steps = λ limit call. demands.each-step limit d call;
   four-turns = demands.four-turns d (typed .slots-fit);

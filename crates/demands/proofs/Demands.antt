@@ -1,6 +1,7 @@
 -- The demands hold: each statement of specs/, with nothing left to assume.
 use Rattle.demands.specs.FourTurns.{FourTurns, FourTurnsByHead}
 use Rattle.demands.specs.Keeps.{TurnKeeps, FreshMakes}
+use Rattle.demands.specs.Sound.{TurnStaysSound, SoundRefusals, FreshMakesSound, FreshStaysSound}
 use Rattle.demands.specs.Reports.{TurnReports}
 use Rattle.demands.specs.Bounded.{TurnsBounded, IdleInTime, FreshIdleInTime}
 use Rattle.demands.specs.Idle.{IdleIsDone}
@@ -9,6 +10,7 @@ use Rattle.demands.specs.OneAnswer.{OneAnswer}
 use Rattle.demands.specs.Table.{Table}
 use Rattle.demands.proofs.FourTurns as four
 use Rattle.demands.proofs.Keeps as keeps
+use Rattle.demands.proofs.Sound as sound
 use Rattle.demands.proofs.Reports as reports
 use Rattle.demands.proofs.Bounded as bounded
 use Rattle.demands.proofs.Idle as idle
@@ -22,6 +24,19 @@ turn-keeps = keeps.turn-keeps
 
 pub fresh-makes : FreshMakes
 fresh-makes = keeps.fresh-makes
+
+-- demand 1: a device stays sound, so a call on its own memory is refused only for what it lends
+pub turn-stays-sound : TurnStaysSound
+turn-stays-sound = sound.turn-stays-sound
+
+pub sound-refusals : SoundRefusals
+sound-refusals = sound.sound-refusals
+
+pub fresh-makes-sound : FreshMakesSound
+fresh-makes-sound = sound.fresh-makes-sound
+
+pub fresh-stays-sound : FreshStaysSound
+fresh-stays-sound = sound.fresh-stays-sound
 
 -- demand 2: what is reported, and what changes in the device
 pub turn-reports : TurnReports

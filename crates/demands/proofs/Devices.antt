@@ -1,6 +1,6 @@
 -- What a served command changes in the device.
 -- Assumes nothing.
-use mathlib.Core.Path.{_≡_, refl}
+use mathlib.Core.Path.{_≡_, refl, ap}
 use mathlib.Core.Bool.{Bool, true, false}
 use mathlib.Core.List.{List, [], _∷_}
 use Prim.Native.Nat.{ℕ, zero, suc, _^_, _≤_, _<_}
@@ -36,14 +36,14 @@ put-below k (x ∷ xs) zero v (suc m) h new = h
 put-below k (x ∷ xs) (suc n) v zero h new = h
 put-below k (x ∷ xs) (suc n) v (suc m) h new = put-below k xs n v m h new
 
--- a ring put in its place with the frame that was there changes no frame
-put-frame : (xs : List Ring) (q : ℕ) (ring : Ring) (n : ℕ) → ring .frame ≡ getD xs q (freshRing emptyWindow) .frame
-    → getD (set xs q ring) n (freshRing emptyWindow) .frame ≡ getD xs n (freshRing emptyWindow) .frame
-put-frame [] q ring n same = refl
-put-frame (x ∷ xs) zero ring zero same = same
-put-frame (x ∷ xs) zero ring (suc n) same = refl
-put-frame (x ∷ xs) (suc q) ring zero same = refl
-put-frame (x ∷ xs) (suc q) ring (suc n) same = put-frame xs q ring n same
+-- what holds of a ring put in place q, if that is place n, and of what place n held, holds of place n after it
+put-each : (P : Ring → Type 0) (xs : List Ring) (q : ℕ) (ring : Ring) (n : ℕ) → (n ≡ q → P ring) → P (getD xs n (freshRing emptyWindow))
+    → P (getD (set xs q ring) n (freshRing emptyWindow))
+put-each P [] q ring n new old = old
+put-each P (x ∷ xs) zero ring zero new old = new refl
+put-each P (x ∷ xs) zero ring (suc n) new old = old
+put-each P (x ∷ xs) (suc q) ring zero new old = old
+put-each P (x ∷ xs) (suc q) ring (suc n) new old = put-each P xs q ring n (λ e. new (ap suc e)) old
 
 pub emit-rises : (b : Bool) (d : Device) (n : ℕ) → SlotsFit d → (b ≡ true → slotOf d n ≡ 4294967295 → ⊥) → (m : ℕ)
     → slotOf d m ≤ slotOf (emitTo b d n) m
@@ -75,10 +75,20 @@ module _ (d : Device) (q : ℕ) (c : Command) (p : Performed) where
   unfolding deviceAfter withMarker withRing slotOf SlotsFit
   after-fits fit = emit-below (emits c (p .outcome)) (withRing d q (ringAfter (ringOf d q) c (p .frame))) (c .rdst) fit
 
+  -- what holds of the served ring after its command, if it is ring n, and held of ring n, holds of ring n
+  pub after-ring : (P : Ring → Type 0) (n : ℕ) → (n ≡ q → P (ringAfter (ringOf d q) c (p .frame))) → P (ringOf d n) → P (ringOf (deviceAfter d q c p) n)
+  unfolding ringOf
+  after-ring P n new old = rw (rings-after d q c p) (put-each P (d .rings) q (ringAfter (ringOf d q) c (p .frame)) n new old)
+
+  -- the windows stay
+  pub after-windows : (n : ℕ) → ringOf (deviceAfter d q c p) n .window ≡ ringOf d n .window
+  unfolding ringAfter
+  after-windows n = after-ring (λ r. r .window ≡ ringOf d n .window) n (λ e. rw e) refl
+
   -- the frames stay where the command leaves its ring's
   pub after-frames : p .frame ≡ ringOf d q .frame → (n : ℕ) → ringOf (deviceAfter d q c p) n .frame ≡ ringOf d n .frame
-  unfolding ringOf ringAfter
-  after-frames same n = rw (rings-after d q c p) (put-frame (d .rings) q (ringAfter (ringOf d q) c (p .frame)) n same)
+  unfolding ringAfter
+  after-frames same n = after-ring (λ r. r .frame ≡ ringOf d n .frame) n (λ e. rw e same) refl
 
   -- an emit puts the new number in its slot, and nothing else changes a slot
   pub after-emit : emits c (p .outcome) ≡ true → deviceAfter d q c p .slots ≡ set (d .slots) (c .rdst) (emitted (slotOf d (c .rdst)))

@@ -2,22 +2,29 @@
 -- Assumes nothing.
 use mathlib.Core.Path.{_≡_, refl, sym, ap, _∙_}
 use mathlib.Core.List.{List}
+use mathlib.Core.Logic.{_↔_}
 use Prim.Native.Nat.{ℕ}
 use native.Mathlib.Numerals.{add-one}
+use native.Mathlib.Omega.{arith}
 use Rattle.memory.specs.Address.{ifInside}
 use Rattle.memory.specs.Access.{loadOf, storeOf}
 use Rattle.memory.specs.Quad.{loadQuadOf, storeQuadOf}
+use Rattle.instruction.specs.declared.effect.Stop.the-variants.{NotListed, OffTheKernel, OutsideTheWindow, OutOfSteps}
 use Rattle.instruction.specs.Decode.{decoded}
 use Rattle.instruction.specs.Effect.{loadedEffect, loadedQuadEffect, effectOf}
 use Rattle.kernel.specs.declared.pack.Kernel.{Kernel}
 use Rattle.kernel.specs.declared.thread.Thread.{Thread}
+use Rattle.kernel.specs.declared.dispatch.Ran.{Ran}
+use Rattle.kernel.specs.declared.dispatch.Ran.the-variants.{Done, Stopped as StoppedFor}
+use Rattle.kernel.specs.Thread.{started}
 use Rattle.kernel.specs.Step.{stops, branched, afterStore, applied, executed}
 use Rattle.kernel.specs.Dispatch.{ifDone, threadMore, dispatchOf}
 use Rattle.kernel.proofs.Runs.{ended-rests, stopped-rests, no-step, one-step-more}
 use Rattle.kernel.proofs.Steps.{at-the-limit, off-the-end, instruction-done}
 use Rattle.kernel.proofs.StepByStep.{more-at-rest, one-more, run-is-steps}
 use Rattle.kernel.proofs.Dispatches.{no-thread, one-thread-more}
-use Rattle.kernel.proofs.Threads.{thread-number, one-more-thread}
+use Rattle.kernel.proofs.StepLimit.{running-at-the-limit, out-of-steps, wfi-at-the-limit}
+use Rattle.kernel.proofs.Threads.{starts-fresh, thread-number, one-more-thread}
 use Rattle.command.specs.Outcome.{outcomeNumber}
 use Rattle.command.specs.Work.{leaves, ranOutcome, dispatchedBy, afterDispatch}
 use Rattle.command.proofs.Works.{work-dispatch}
@@ -26,10 +33,10 @@ use Rattle.device.specs.declared.state.Device.{Device}
 use Rattle.device.specs.State.{ringOf, slotOf}
 use Rattle.device.specs.Answer.{valuesOf}
 use Rattle.device.specs.Turn.{Call, servedOf}
-use Rattle.demands.specs.Calls.{ringIn, headIn, answerOf, numberIn, valuesIn}
-use Rattle.demands.specs.EachStep.{windowIn, Dispatches, threadsIn, Leaves, ThreadsInOrder, StepsInOrder, StepByRule, EachStep}
-use Rattle.demands.proofs.Answers.{served-report}
-use Rattle.demands.proofs.Turns.{workIn, was-served}
+use Rattle.demands.specs.Calls.{ringIn, headIn, numberIn, valuesIn, ringServed}
+use Rattle.demands.specs.EachStep.{windowIn, Dispatches, threadsIn, kernelIn, Leaves, ThreadsInOrder, StepsInOrder, StepByRule, LimitTied, OutOfStepsIn, EachStep}
+use Rattle.demands.proofs.Turns.{workIn, served-as}
+use Rattle.demands.proofs.OutOfSteps.{first-out-of-steps}
 
 -- the work of a DISPATCH_1D with no fault is what its threads leave
 dispatch-work : (limit : ℕ) (d : Device) (call : Call) (q : ℕ) → Dispatches d call q
@@ -40,19 +47,18 @@ dispatch-work limit d call q is =
     performed-work c (slotOf d (c .rdst)) (ringIn call q) (windowIn d call q) (ringOf d q .frame) (call .pack) (call .pipe) limit (is .no-fault)
     ∙ work-dispatch c (ringIn call q) (windowIn d call q) (ringOf d q .frame) (call .pack) (call .pipe) limit (is .opcode)
 
-dispatch-served : (limit : ℕ) (d : Device) (call : Call) → numberIn limit d call ≡ 0 → Dispatches d call (valuesIn limit d call .ring)
-    → Leaves limit d call (threadsIn limit d call (valuesIn limit d call .ring))
+dispatch-served : (limit : ℕ) (d : Device) (call : Call) → numberIn limit d call ≡ 0 → Dispatches d call (ringServed limit d call)
+    → Leaves limit d call (threadsIn limit d call (ringServed limit d call))
 unfolding servedOf afterDispatch leaves valuesOf
 dispatch-served limit d call number is =
-    let told = served-report (answerOf limit d call) number in
-    let report = told .0 in
-    let was = was-served limit d call report (told .1) in
-    let ring : valuesIn limit d call .ring ≡ report .ring = ap (λ a. valuesOf a .ring) (told .1) in
-    let work = dispatch-work limit d call (report .ring) (rw ring at is) in
+    let s = served-as limit d call number in
+    let ring : ringServed limit d call ≡ s .report .ring = ap (λ v. v .ring) (s .values) in
+    let told = ap (λ v. v .outcome) (s .values) ∙ sym (ap (λ r. outcomeNumber (r .outcome)) (s .was .told)) in
+    let work = dispatch-work limit d call (s .report .ring) (rw ring at is) in
     record {
-      memory = rw (ring, was .after, work);
-      pipe = rw (was .after, work);
-      outcome = rw ring (ap (λ a. valuesOf a .outcome) (told .1) ∙ sym (ap (λ r. outcomeNumber (r .outcome)) (was .told)) ∙ ap (λ l. outcomeNumber (l .performed .outcome)) work);
+      memory = rw (ring, s .was .after, work);
+      pipe = rw (s .was .after, work);
+      outcome = rw ring (told ∙ ap (λ l. outcomeNumber (l .performed .outcome)) work);
     }
 
 threads-in-order : (limit : ℕ) (pack : List ℕ) (kernel : Kernel) (groups threads : ℕ) (window : List ℕ) → ThreadsInOrder limit pack kernel groups threads window
@@ -88,6 +94,40 @@ step-by-rule limit pack kernel t window = record {
   load-quad = λ vd x y vectors e. rw e;
 }
 
+-- a thread at its start is tied to the limit
+limit-tied : (limit : ℕ) (pack : List ℕ) (kernel : Kernel) (g j threads groups : ℕ) (window : List ℕ)
+    → LimitTied limit pack kernel (started g j threads groups) window
+limit-tied limit pack kernel g j threads groups window =
+    let t = started g j threads groups in
+    let fresh = starts-fresh g j threads groups in
+    record {
+      given = out-of-steps limit pack kernel t window fresh;
+      left = running-at-the-limit limit pack kernel t window fresh;
+      wfi = wfi-at-the-limit limit pack kernel t window fresh;
+    }
+
+-- the number 14 is that of a dispatch out of steps
+fourteen-is : (r : Ran) → (outcomeNumber (ranOutcome r) ≡ 14) ↔ (r ≡ StoppedFor OutOfSteps)
+unfolding outcomeNumber ranOutcome
+fourteen-is r = (there r, λ e. rw e)
+  where
+    there : (r : Ran) → outcomeNumber (ranOutcome r) ≡ 14 → r ≡ StoppedFor OutOfSteps
+    there Done e = absurd (omega arith)
+    there (StoppedFor NotListed) e = absurd (omega arith)
+    there (StoppedFor OffTheKernel) e = absurd (omega arith)
+    there (StoppedFor OutsideTheWindow) e = absurd (omega arith)
+    there (StoppedFor OutOfSteps) e = refl
+
+dispatch-fourteen : (limit : ℕ) (d : Device) (call : Call) → numberIn limit d call ≡ 0 → Dispatches d call (ringServed limit d call)
+    → (valuesIn limit d call .outcome ≡ 14) ↔ OutOfStepsIn limit d call (ringServed limit d call)
+dispatch-fourteen limit d call served is =
+    let q = ringServed limit d call in
+    let c = headIn d call q in
+    let number = fourteen-is (threadsIn limit d call q .ran) in
+    let first = first-out-of-steps limit (call .pack) (kernelIn d call q) (c .arg0) (c .arg1) (windowIn d call q) in
+    let same = dispatch-served limit d call served is .outcome in
+    (λ n. first .0 (number .0 (sym same ∙ n)), λ f. same ∙ number .1 (first .1 f))
+
 pub each-step : EachStep
 unfolding EachStep outcomeNumber ranOutcome
 each-step limit d call = record {
@@ -95,5 +135,7 @@ each-step limit d call = record {
   threads = threads-in-order limit (call .pack);
   steps = steps-in-order limit (call .pack);
   step = step-by-rule limit (call .pack);
+  limits = λ served is g j g-is j-is. limit-tied limit (call .pack) _ g j _ _;
+  fourteen = dispatch-fourteen limit d call;
   numbers = (refl, refl, refl, refl);
 }

@@ -1,6 +1,6 @@
 -- What a turn leaves as it was.
 -- Assumes nothing.
-use mathlib.Core.Path.{_≡_, refl, ap, subst, _∙_}
+use mathlib.Core.Path.{_≡_, refl, sym, ap, subst, _∙_}
 use Prim.Native.Nat.{ℕ, _+_, _≤_}
 use native.Mathlib.Omega.{arith}
 use lib.ListN.{length, getD}
@@ -16,10 +16,9 @@ use Rattle.device.specs.Refusal.{refusalNumber}
 use Rattle.device.specs.Answer.{answerNumber, valuesOf, makingNumber}
 use Rattle.device.specs.Fresh.{freshOf}
 use Rattle.device.specs.Turn.{Call, unchanged, reportOf, finished, servedOf, turnOf}
-use Rattle.demands.specs.Calls.{headIn, answerOf, numberIn}
+use Rattle.demands.specs.Calls.{headIn, numberIn, valuesIn}
 use Rattle.demands.specs.Keeps.{Same, SameBytes, OutsideOf, PipeKept, Keeps, TurnKeeps, FreshMakes}
-use Rattle.demands.proofs.Answers.{served-report}
-use Rattle.demands.proofs.Turns.{servedIn, workIn, turn-cases, was-served, picked-servable}
+use Rattle.demands.proofs.Turns.{servedIn, workIn, turn-cases, served-as, picked-servable}
 use Rattle.demands.proofs.Works.{window-stays, pipe-stays}
 use Rattle.demands.proofs.Devices.{after-frames}
 
@@ -68,25 +67,22 @@ module _ (limit : ℕ) (d : Device) (call : Call) where
     refused = λ number. not-served-same (omega arith);
     idle = λ number. not-served-same (omega arith);
     faults = λ number low high.
-        let told = served-report (answerOf limit d call) number in
-        let report = told .0 in
-        let was = was-served limit d call report (told .1) in
-        let same : outcomeNumber (workIn limit d call (report .ring) .performed .outcome) ≡ outcomeNumber (report .outcome) =
-        ap (λ r. outcomeNumber (r .outcome)) (was .told) in
-        rw (was .after) (served-faults (report .ring) (picked-servable d call (report .ring) (was .sound) (was .pick) .fits) (rw (same, ← ap (λ a. valuesOf a .outcome) (told .1)) low) (rw (same, ← ap (λ a. valuesOf a .outcome) (told .1)) high));
+        let s = served-as limit d call number in
+        let q = s .report .ring in
+        let same : outcomeNumber (workIn limit d call q .performed .outcome) ≡ valuesIn limit d call .outcome =
+        ap (λ r. outcomeNumber (r .outcome)) (s .was .told) ∙ sym (ap (λ v. v .outcome) (s .values)) in
+        rw (s .was .after) (served-faults q (picked-servable d call q (s .was .sound) (s .was .pick) .fits) (rw same low) (rw same high));
     outside = λ number i out.
-        let told = served-report (answerOf limit d call) number in
-        let report = told .0 in
-        let was = was-served limit d call report (told .1) in
-        rw (was .after) (served-outside (report .ring) (picked-servable d call (report .ring) (was .sound) (was .pick) .fits) i (rw (told .1) at out));
+        let s = served-as limit d call number in
+        let q = s .report .ring in
+        rw (s .was .after)
+        (served-outside q (picked-servable d call q (s .was .sound) (s .was .pick) .fits) i (rw (ap (λ v. v .ring) (s .values)) at out));
     long = turn-cases limit d call (λ a. length (a .memory) ≡ length (call .memory)) (λ why v. refl) (λ sound p. refl)
         (λ q sound p. served-long q (picked-servable d call q sound p .fits));
     pipe = λ number.
-        let told = served-report (answerOf limit d call) number in
-        let report = told .0 in
-        let was = was-served limit d call report (told .1) in
-        let kept : Report → Type 0 = λ r. PipeKept (r .words) (call .pipe) (servedIn limit d call (report .ring) .pipe) in
-        rw (told .1, was .after) (subst kept (was .told) (served-pipe (report .ring)));
+        let s = served-as limit d call number in
+        let kept : Report → Type 0 = λ r. PipeKept (r .words) (call .pipe) (servedIn limit d call (s .report .ring) .pipe) in
+        rw (s .values, s .was .after) (subst kept (s .was .told) (served-pipe (s .report .ring)));
   }
 
 pub turn-keeps : TurnKeeps

@@ -5,6 +5,7 @@ pub mod Works
 pub mod Walks
 pub mod FourTurns
 pub mod Keeps
+pub mod Sound
 pub mod Emitting
 pub mod Reports
 pub mod Sums
@@ -16,4 +17,5 @@ pub mod Demands
 pub mod Demanded
 pub mod Table
 pub mod OneAnswer
+pub mod OutOfSteps
 pub mod EachStep

@@ -28,10 +28,9 @@ use Rattle.device.specs.Turn.{Call, fenceOf, ringAfter, deviceAfter, finished, 
 use Rattle.device.proofs.Verdicts.{found}
 use Rattle.device.proofs.BytesLeft.{served-ring, other-ring}
 use Rattle.device.proofs.Shapes.{after-shaped}
-use Rattle.demands.specs.Calls.{ringIn, headIn, answerOf, leftBy}
+use Rattle.demands.specs.Calls.{ringIn, headIn, leftBy}
 use Rattle.demands.specs.Reports.{Signals, Interrupts, Reads, SetsFrame, Reported, Serving, TurnReports}
-use Rattle.demands.proofs.Answers.{served-report}
-use Rattle.demands.proofs.Turns.{workIn, was-served, marker-below}
+use Rattle.demands.proofs.Turns.{workIn, WasServed, served-as, marker-below}
 use Rattle.demands.proofs.Works.{full-slot-stays, frame-set, frame-kept}
 use Rattle.demands.proofs.Devices.{after-marker, after-fits, after-emit, after-no-emit, after-other-slot}
 use Rattle.demands.proofs.Emitting.{emits-in-range}
@@ -132,11 +131,10 @@ module _ (d : Device) (q : ℕ) (c : Command) (p : Performed) (shaped : Shaped d
   }
 
 -- the values of a served turn's report
-reports : (limit : ℕ) (d : Device) (call : Call) (report : Report) → Shaped d → SlotsFit d → answerOf limit d call ≡ Served report
+reports : (limit : ℕ) (d : Device) (call : Call) (report : Report) → Shaped d → SlotsFit d → WasServed limit d call report
     → Serving limit d call (valuesOf (Served report))
 unfolding servedOf finished pickOf valuesOf
-reports limit d call report shaped fit e =
-    let was = was-served limit d call report e in
+reports limit d call report shaped fit was =
     let q = report .ring in
     let c = headIn d call q in
     let p = workIn limit d call q .performed in
@@ -156,5 +154,5 @@ reports limit d call report shaped fit e =
 pub turn-reports : TurnReports
 unfolding TurnReports
 turn-reports d shaped fit limit call number =
-    let told = served-report (answerOf limit d call) number in
-    rw (told .1) (reports limit d call (told .0) shaped fit (told .1))
+    let s = served-as limit d call number in
+    rw (s .values) (reports limit d call (s .report) shaped fit (s .was))

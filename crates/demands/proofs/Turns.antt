@@ -20,10 +20,11 @@ use Rattle.device.specs.declared.turn.Answer.{Answer}
 use Rattle.device.specs.declared.turn.Answer.the-variants.{Refused as RefusedFor, Idle, Served}
 use Rattle.device.specs.State.{ringOf, slotOf}
 use Rattle.device.specs.Ready.{pickOf}
-use Rattle.device.specs.Answer.{answerNumber}
+use Rattle.device.specs.Answer.{answerNumber, valuesOf}
 use Rattle.device.specs.Turn.{Call, After, unchanged, fenceOf, reportOf, finished, servedOf, pickedOf, judgedOf, verdictOn, turnOf, Servable}
 use Rattle.device.proofs.Verdicts.{steady, servable}
-use Rattle.demands.specs.Calls.{ringIn, headIn, answerOf, isRefused}
+use Rattle.demands.specs.Calls.{ringIn, headIn, answerOf, numberIn, valuesIn, isRefused}
+use Rattle.demands.proofs.Answers.{served-report}
 
 -- the ring that a call's turn picks
 abbrev pub pickIn : Device → Call → Picked
@@ -86,6 +87,17 @@ was-served limit d call report e =
     let ring : q ≡ report .ring = ap (λ r. r .ring) told in
     record { sound = sound; pick = p ∙ ap RingOf ring; after = sym same ∙ ap (servedIn limit d call) ring; told = rw ring at told })
     refl e
+
+-- and of a turn whose number is 0
+pub record ServedAs (limit : ℕ) (d : Device) (call : Call) : Type 0 where
+  pub report : Report
+  pub was : WasServed limit d call report
+  pub values : valuesIn limit d call ≡ valuesOf (Served report)
+
+pub served-as : (limit : ℕ) (d : Device) (call : Call) → numberIn limit d call ≡ 0 → ServedAs limit d call
+served-as limit d call number =
+    let told = served-report (answerOf limit d call) number in
+    record { report = told .0; was = was-served limit d call (told .0) (told .1); values = ap valuesOf (told .1) }
 
 -- a call that is not refused finds the marker among the rings
 pub marker-below : (d : Device) (call : Call) → verdictOn d call ≡ Sound → d .marker < 4

@@ -38,6 +38,10 @@ numberIn limit d call = answerNumber (answerOf limit d call)
 abbrev pub valuesIn : ℕ → Device → Call → Values
 valuesIn limit d call = valuesOf (answerOf limit d call)
 
+-- the ring that it serves
+abbrev pub ringServed : ℕ → Device → Call → ℕ
+ringServed limit d call = valuesIn limit d call .ring
+
 -- the answer is a refusal: its number is 101 or above
 unfoldable pub isRefused : Answer → Bool
 isRefused answer = leb 101 (answerNumber answer)

@@ -3,14 +3,16 @@ use Prim.Native.Nat.{ℕ}
 use Rattle.device.specs.declared.state.Device.{Device}
 use Rattle.device.specs.Turn.{Call}
 use Rattle.demands.specs.Keeps.{Keeps}
+use Rattle.demands.specs.Sound.{StaysSound}
 use Rattle.demands.specs.Reports.{ReportsFrom}
 use Rattle.demands.specs.EachStep.{StepByStep}
 use Rattle.demands.specs.FourTurns.{FourTurnsFrom, FourTurnsByHeadFrom}
 use Rattle.demands.specs.Bounded.{BoundedFrom, IdleInTimeFrom}
 
 pub record Demanded (d : Device) : Type 0 where
-  -- demand 1: what a turn leaves as it was
+  -- demand 1: what a turn leaves as it was, and that a sound device stays sound
   pub keeps : (limit : ℕ) (call : Call) → Keeps limit d call
+  pub stays-sound : (limit : ℕ) (call : Call) → StaysSound limit d call
   -- demand 2: what is reported, and each step of each thread
   pub reports : ReportsFrom d
   pub steps : (limit : ℕ) (call : Call) → StepByStep limit d call

@@ -4,6 +4,7 @@ use Prim.Native.Nat.{ℕ, suc, _+_, _*_, _≤_, _<_}
 use mathlib.Core.Path.{_≡_}
 use mathlib.Core.Bool.{true, false}
 use mathlib.Core.List.{List}
+use mathlib.Core.Logic.{_↔_}
 use lib.ListN.{length}
 use Rattle.words.specs.Arithmetic.{sum}
 use Rattle.memory.specs.declared.access.Width.{Width}
@@ -13,7 +14,7 @@ use Rattle.memory.specs.Access.{bytesOf}
 use Rattle.memory.specs.Address.{reachOf}
 use Rattle.memory.specs.Window.{windowOf, putBack}
 use Rattle.instruction.specs.declared.list.Instr.{Instr}
-use Rattle.instruction.specs.declared.list.Op.the-variants.{Load, Vld, Unlisted}
+use Rattle.instruction.specs.declared.list.Op.the-variants.{Load, Vld, Wfi, Unlisted}
 use Rattle.instruction.specs.declared.effect.Stop.{Stop}
 use Rattle.instruction.specs.declared.effect.Stop.the-variants.{NotListed, OffTheKernel, OutsideTheWindow, OutOfSteps}
 use Rattle.instruction.specs.declared.effect.Effect.the-variants.{Store, StoreQuad, Go, Stop as StopFor}
@@ -21,12 +22,12 @@ use Rattle.instruction.specs.Decode.{opOf, decoded}
 use Rattle.instruction.specs.Effect.{effectOf}
 use Rattle.kernel.specs.declared.pack.Kernel.{Kernel}
 use Rattle.kernel.specs.declared.thread.Thread.{Thread}
-use Rattle.kernel.specs.declared.step.Progress.the-variants.{Ended, Stopped}
+use Rattle.kernel.specs.declared.step.Progress.the-variants.{Running, Ended, Stopped}
 use Rattle.kernel.specs.declared.dispatch.Ran.the-variants.{Stopped as StoppedFor}
 use Rattle.kernel.specs.Pack.{kernelOf, codeWord}
 use Rattle.kernel.specs.Registers.{scalarOf}
 use Rattle.kernel.specs.Thread.{started}
-use Rattle.kernel.specs.Step.{State, stops, lands, applied, executed, stepOf}
+use Rattle.kernel.specs.Step.{State, stops, ends, lands, applied, executed, stepOf}
 use Rattle.kernel.specs.Run.{running, stepsOf, runOf}
 use Rattle.kernel.specs.Dispatch.{Dispatched, shown, going, threadOf, threadsOf}
 use Rattle.command.specs.Opcode.{dispatch1D}
@@ -36,7 +37,7 @@ use Rattle.command.specs.Perform.{faultOf}
 use Rattle.device.specs.declared.state.Device.{Device}
 use Rattle.device.specs.State.{ringOf, slotOf}
 use Rattle.device.specs.Turn.{Call, turnOf}
-use Rattle.demands.specs.Calls.{headIn, numberIn, valuesIn}
+use Rattle.demands.specs.Calls.{headIn, numberIn, valuesIn, ringServed}
 
 -- ring q's window of the memory that a call lends
 abbrev pub windowIn : Device → Call → ℕ → List ℕ
@@ -47,15 +48,23 @@ pub record Dispatches (d : Device) (call : Call) (q : ℕ) : Type 0 where
   pub opcode : headIn d call q .opcode ≡ dispatch1D
   pub no-fault : isDone (faultOf (headIn d call q) (slotOf d (headIn d call q .rdst)) (length (windowIn d call q)) (ringOf d q .frame) (call .pack)) ≡ true
 
--- its threads, arg0 groups of arg1, in kernel arg2, on its ring's window
+-- its kernel is arg2
+abbrev pub kernelIn : Device → Call → ℕ → Kernel
+kernelIn d call q = kernelOf (call .pack) (headIn d call q .arg2)
+
+-- its threads, arg0 groups of arg1, on its ring's window
 abbrev pub threadsIn : ℕ → Device → Call → ℕ → Dispatched
 threadsIn limit d call q =
     let c = headIn d call q in
-    threadsOf (c .arg0 * c .arg1) limit (call .pack) (kernelOf (call .pack) (c .arg2)) (c .arg0) (c .arg1) (windowIn d call q)
+    threadsOf (c .arg0 * c .arg1) limit (call .pack) (kernelIn d call q) (c .arg0) (c .arg1) (windowIn d call q)
+
+-- thread j of group g as it starts
+abbrev pub threadIn : Device → Call → ℕ → ℕ → ℕ → Thread
+threadIn d call q g j = started g j (headIn d call q .arg1) (headIn d call q .arg0)
 
 -- the turn leaves what the threads leave: the window is put back, and the outcome is theirs
 pub record Leaves (limit : ℕ) (d : Device) (call : Call) (threads : Dispatched) : Type 0 where
-  pub memory : turnOf limit d call .memory ≡ putBack (ringOf d (valuesIn limit d call .ring) .window .start) (threads .window) (call .memory)
+  pub memory : turnOf limit d call .memory ≡ putBack (ringOf d (ringServed limit d call) .window .start) (threads .window) (call .memory)
   pub pipe : turnOf limit d call .pipe ≡ call .pipe
   pub outcome : valuesIn limit d call .outcome ≡ outcomeNumber (ranOutcome (threads .ran))
 
@@ -123,20 +132,57 @@ pub record StepByRule (limit : ℕ) (pack : List ℕ) (kernel : Kernel) (t : Thr
   pub load-quad : (vd x y : ℕ) (vectors : List ℕ) → reachOf (length window) x 16 ≡ Outside
       → effectOf (Vld vd) x y vectors window ≡ StopFor OutsideTheWindow
 
+-- the step limit of a thread that has taken no step: 14 is tied to the state after that many steps
+pub record LimitTied (limit : ℕ) (pack : List ℕ) (kernel : Kernel) (t : Thread) (window : List ℕ) : Type 0 where
+  -- its run gives 14 exactly if it is still running after the limit's steps
+  pub given : (runOf limit pack kernel t window .stepped .progress ≡ Stopped OutOfSteps)
+      ↔ (stepsOf limit limit pack kernel t window .stepped .progress ≡ Running)
+  -- and then the thread and the window are as those steps left them
+  pub left : stepsOf limit limit pack kernel t window .stepped .progress ≡ Running
+      → runOf limit pack kernel t window
+      ≡ stoppedAs OutOfSteps (stepsOf limit limit pack kernel t window .stepped .thread) (stepsOf limit limit pack kernel t window .window)
+  -- a WFI that is step number `limit` ends the thread, and 14 is not given
+  pub wfi : (n : ℕ) (t′ : Thread) (window′ : List ℕ) → n + 1 ≡ limit → stepsOf n limit pack kernel t window ≡ running t′ window′
+      → t′ .place < kernel .length → opOf (codeWord pack kernel (t′ .place)) ≡ Wfi
+      → runOf limit pack kernel t window ≡ record { stepped = ends t′; window = window′ }
+
+-- no thread before this one stopped, and on the window that those left it is still running after the limit's steps
+pub record FirstOutOfSteps (limit : ℕ) (pack : List ℕ) (kernel : Kernel) (groups threads : ℕ) (window : List ℕ) : Type 0 where
+  pub group : ℕ
+  pub thread : ℕ
+  pub group-below : group < groups
+  pub thread-below : thread < threads
+  pub window-before : List ℕ
+  pub before : threadsOf (group * threads + thread) limit pack kernel groups threads window ≡ going window-before
+  pub still : stepsOf limit limit pack kernel (started group thread threads groups) window-before .stepped .progress ≡ Running
+
+-- that of the dispatch that is ring q's head command
+abbrev pub OutOfStepsIn : ℕ → Device → Call → ℕ → Type 0
+OutOfStepsIn limit d call q =
+    let c = headIn d call q in
+    FirstOutOfSteps limit (call .pack) (kernelIn d call q) (c .arg0) (c .arg1) (windowIn d call q)
+
 -- the number of the outcome that a stop gives
 abbrev pub stopNumber : Stop → ℕ
 stopNumber why = outcomeNumber (ranOutcome (StoppedFor why))
 
 pub record StepByStep (limit : ℕ) (d : Device) (call : Call) : Type 0 where
   -- a turn that serves a DISPATCH_1D with no fault leaves what its threads leave
-  pub served : numberIn limit d call ≡ 0 → Dispatches d call (valuesIn limit d call .ring)
-      → Leaves limit d call (threadsIn limit d call (valuesIn limit d call .ring))
+  pub served : numberIn limit d call ≡ 0 → Dispatches d call (ringServed limit d call)
+      → Leaves limit d call (threadsIn limit d call (ringServed limit d call))
   -- its threads run in order
   pub threads : (kernel : Kernel) (groups threads : ℕ) (window : List ℕ) → ThreadsInOrder limit (call .pack) kernel groups threads window
   -- each takes its steps in order
   pub steps : (kernel : Kernel) (t : Thread) (window : List ℕ) → StepsInOrder limit (call .pack) kernel t window
   -- each step is by the instruction's rule
   pub step : (kernel : Kernel) (t : Thread) (window : List ℕ) → StepByRule limit (call .pack) kernel t window
+  -- step number `limit` of each thread of a served dispatch, thread j of group g, is tied to the state after that many steps
+  pub limits : numberIn limit d call ≡ 0 → Dispatches d call (ringServed limit d call) → (g j : ℕ)
+      → g < headIn d call (ringServed limit d call) .arg0 → j < headIn d call (ringServed limit d call) .arg1 → (window : List ℕ)
+      → LimitTied limit (call .pack) (kernelIn d call (ringServed limit d call)) (threadIn d call (ringServed limit d call) g j) window
+  -- and the turn's outcome is 14 exactly if the first of them to stop is still running after the limit's steps
+  pub fourteen : numberIn limit d call ≡ 0 → Dispatches d call (ringServed limit d call)
+      → (valuesIn limit d call .outcome ≡ 14) ↔ OutOfStepsIn limit d call (ringServed limit d call)
   -- the outcomes that the stops give
   pub numbers : (stopNumber NotListed ≡ 11) × (stopNumber OffTheKernel ≡ 12) × (stopNumber OutsideTheWindow ≡ 13) × (stopNumber OutOfSteps ≡ 14)
 

@@ -13,7 +13,7 @@ use Rattle.device.specs.Refusal.{memoryFits}
 use Rattle.device.specs.Answer.{noValues, valuesOf, makingNumber}
 use Rattle.device.specs.Fresh.{freshOf}
 use Rattle.device.specs.Turn.{Call, After, turnOf}
-use Rattle.demands.specs.Calls.{numberIn, valuesIn}
+use Rattle.demands.specs.Calls.{numberIn, valuesIn, ringServed}
 
 -- device, memory and pipe are as they were, and nothing is reported: zeros and no IRQ
 pub record Same (d : Device) (call : Call) (after : After) : Type 0 where
@@ -47,7 +47,7 @@ pub record Keeps (limit : ℕ) (d : Device) (call : Call) : Type 0 where
   pub faults : numberIn limit d call ≡ 0 → 1 ≤ valuesIn limit d call .outcome → valuesIn limit d call .outcome ≤ 10
       → SameBytes d call (turnOf limit d call)
   -- no byte outside the served ring's window changes
-  pub outside : numberIn limit d call ≡ 0 → (i : ℕ) → OutsideOf (ringOf d (valuesIn limit d call .ring) .window) i
+  pub outside : numberIn limit d call ≡ 0 → (i : ℕ) → OutsideOf (ringOf d (ringServed limit d call) .window) i
       → getD (turnOf limit d call .memory) i 0 ≡ getD (call .memory) i 0
   -- the memory keeps its length
   pub long : length (turnOf limit d call .memory) ≡ length (call .memory)

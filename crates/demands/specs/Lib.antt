@@ -7,4 +7,5 @@ pub mod Idle
 pub mod Table
 pub mod OneAnswer
 pub mod EachStep
+pub mod Sound
 pub mod Demanded

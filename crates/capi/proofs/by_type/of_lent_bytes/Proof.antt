@@ -2,7 +2,6 @@
 use mathlib.Core.Path.{_≡_}
 use denote.Ref.{now}
 use lib.ListN.{getD, List·getD-eq-default}
-use native.Mathlib.Nat.{le-trans}
 use native.Mathlib.Omega.{arith}
 use borrow.Author.Needs.{needs}
 use Rattle.capi.proofs.by_type.of_lent_bytes.Statement.{statement}

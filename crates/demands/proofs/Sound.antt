@@ -1,0 +1,193 @@
+-- A device stays sound, so a call on its own memory is refused only for what it lends.
+-- Assumes nothing.
+use mathlib.Core.Path.{_≡_, refl, ap, _∙_}
+use mathlib.Core.Bool.{true, false}
+use mathlib.Core.List.{List, [], _∷_}
+use Prim.Native.Nat.{ℕ, _+_, _≤_, _<_}
+use native.Mathlib.Omega.{arith}
+use lib.Dec.{leb, lit≤, lit<}
+use lib.ListN.{length}
+use borrow.Author.Tests.{le-leb, lt-leb}
+use Rattle.memory.proofs.Window.{window-length}
+use Rattle.command.specs.Choice.{either}
+use Rattle.command.specs.Outcome.{outcomeNumber, isDone}
+use Rattle.command.specs.Frame.{heldFault}
+use Rattle.command.proofs.Choices.{both-right, either-has}
+use Rattle.command.proofs.Kept.{performed-frame}
+use Rattle.device.specs.declared.state.Window.{Window}
+use Rattle.device.specs.declared.state.Device.{Device}
+use Rattle.device.specs.declared.refusal.Refusal.{Refusal}
+use Rattle.device.specs.declared.refusal.Verdict.{Verdict}
+use Rattle.device.specs.declared.refusal.Verdict.the-variants.{Sound, Refused}
+use Rattle.device.specs.declared.ready.Picked.the-variants.{Ring as RingOf}
+use Rattle.device.specs.declared.fresh.Fresh.{Fresh}
+use Rattle.device.specs.State.{freshDevice, ringOf, slotOf}
+use Rattle.device.specs.Answer.{answerNumber, makingNumber}
+use Rattle.device.specs.Refusal.{refusalNumber, memoryFits, windowsFit, ringSound, stateSound, verdictOf}
+use Rattle.device.specs.Fresh.{freshOf}
+use Rattle.device.specs.Turn.{Call, unchanged, ringAfter, reportOf, finished, servedOf, judgedOf, verdictOn, turnOf}
+use Rattle.device.proofs.Seeks.{next-below}
+use Rattle.device.proofs.Verdicts.{all-four}
+use Rattle.device.proofs.Wholes.{whole-inside}
+use Rattle.demands.specs.Calls.{ringIn, headIn, answerOf, leftBy}
+use Rattle.demands.specs.EachStep.{windowIn}
+use Rattle.demands.specs.Sound.{StaysSound, TurnStaysSound, RefusedForLent, SoundRefusals, FreshMakesSound, EachCall, none, more, FreshStaysSound}
+use Rattle.demands.proofs.Turns.{pickIn, servedIn, workIn, turn-cases, picked-servable}
+use Rattle.demands.proofs.Devices.{after-marker, after-ring, after-windows}
+
+-- a sound state has four sound rings
+rings-sound : (d : Device) → stateSound d ≡ true → (q : ℕ) → q < 4 → ringSound (ringOf d q) ≡ true
+unfolding stateSound
+rings-sound d sound = all-four (λ p. ringSound (ringOf d p)) (both-right (leb (d .marker) 3) _ sound)
+
+-- and a state of four sound rings, its marker among them, is sound
+sound-if : (d : Device) → d .marker < 4 → ((q : ℕ) → q < 4 → ringSound (ringOf d q) ≡ true) → stateSound d ≡ true
+unfolding stateSound
+sound-if d marker rings =
+    rw (le-leb (d .marker) 3 (omega arith), rings 0 (lit< tt), rings 1 (lit< tt), rings 2 (lit< tt), rings 3 (lit< tt))
+
+-- what holds of the numbers that a verdict may give
+abbrev Numbers : (ℕ → Type 0) → Verdict → Type 0
+Numbers P Sound = (n : ℕ) → n ≤ 1 → P n
+Numbers P (Refused why) = P (refusalNumber why)
+
+module _ (limit : ℕ) (d : Device) (call : Call) where
+  -- the ring that a turn served is sound: its cursor ends in its bytes, and its frame is one that SET_FB did not refuse
+  module _ (q : ℕ) (sound : verdictOn d call ≡ Sound) (pick : pickIn d call ≡ RingOf q) (state : stateSound d ≡ true) where
+    cursor-inside : ringOf d q .cursor + headIn d call q .size ≤ 65536
+    cursor-inside =
+        let s = picked-servable d call q sound pick in
+        omega (arith, whole-inside (ringIn call q) (ringOf d q .cursor) (s .whole))
+
+    frame-passes : isDone (heldFault (workIn limit d call q .performed .frame) (ringOf d q .window .length)) ≡ true
+    unfolding ringSound
+    frame-passes =
+        let s = picked-servable d call q sound pick in
+        let c = headIn d call q in
+        let long = window-length (ringOf d q .window .start) (ringOf d q .window .length) (call .memory) (s .fits) in
+        let held = both-right (leb (ringOf d q .cursor) 65536) _ (rings-sound d state q (s .number)) in
+        rw long at (performed-frame c (slotOf d (c .rdst)) (ringIn call q) (windowIn d call q) (ringOf d q .frame) (call .pack) (call .pipe) limit (rw long held))
+
+    served-sound : stateSound (servedIn limit d call q .turned .device) ≡ true
+    unfolding servedOf finished ringAfter ringSound
+    served-sound =
+        let c = headIn d call q in
+        let p = workIn limit d call q .performed in
+        sound-if _ (rw (after-marker d q c p) (next-below q (picked-servable d call q sound pick .number)))
+        (λ n four.
+        after-ring d q c p (λ r. ringSound r ≡ true) n (λ e. rw (le-leb _ 65536 cursor-inside, frame-passes)) (rings-sound d state n four))
+
+  left-sound : stateSound d ≡ true → stateSound (leftBy limit d call) ≡ true
+  unfolding unchanged
+  left-sound state =
+      turn-cases limit d call (λ a. stateSound (a .turned .device) ≡ true)
+      (λ why v. state)
+      (λ sound p. state)
+      (λ q sound p. served-sound q sound p state)
+
+  left-windows : (n : ℕ) → ringOf (leftBy limit d call) n .window ≡ ringOf d n .window
+  unfolding unchanged servedOf finished
+  left-windows n =
+      turn-cases limit d call (λ a. ringOf (a .turned .device) n .window ≡ ringOf d n .window)
+      (λ why v. refl)
+      (λ sound p. refl)
+      (λ q sound p. after-windows d q (headIn d call q) (workIn limit d call q .performed) n)
+
+  left-fits : (memory : ℕ) → windowsFit (leftBy limit d call) memory ≡ windowsFit d memory
+  unfolding windowsFit
+  left-fits memory = rw (left-windows 0, left-windows 1, left-windows 2, left-windows 3)
+
+  -- a refused call's number is its refusal's
+  refused-number : {why : Refusal} → verdictOn d call ≡ Refused why → answerNumber (answerOf limit d call) ≡ refusalNumber why
+  unfolding turnOf judgedOf unchanged answerNumber
+  refused-number e = ap (λ v. answerNumber (judgedOf limit d call v .turned .answer)) e
+
+  -- one that is not refused is idle or served
+  heard-number : verdictOn d call ≡ Sound → answerNumber (answerOf limit d call) ≤ 1
+  unfolding unchanged servedOf finished reportOf answerNumber
+  heard-number sound =
+      turn-cases limit d call (λ a. answerNumber (a .turned .answer) ≤ 1)
+      (λ why v. absurd (let z : _≡_ {A = ℕ} 0 1 = cc in omega arith))
+      (λ sound p. lit≤ tt)
+      (λ q sound p. lit≤ tt)
+
+  -- what each number has where it may be given, a call's number has
+  number-has : (P : ℕ → Type 0) → (windowsFit d (length (call .memory)) ≡ false → P 101) → (stateSound d ≡ false → P 102)
+      → P 103 → P 104 → P 105 → ((n : ℕ) → n ≤ 1 → P n) → P (answerNumber (answerOf limit d call))
+  unfolding verdictOn verdictOf refusalNumber
+  number-has P memory state rings pipe pack heard =
+      go (verdictOn d call) refl
+      (either-has (Numbers P) _
+      (λ e. either-has (Numbers P) _
+      (λ e. either-has (Numbers P) _
+      (λ e. either-has (Numbers P) _
+      (λ e. either-has (Numbers P) _ (λ e. heard)
+      (λ e. pack))
+      (λ e. pipe))
+      (λ e. rings))
+      state)
+      memory)
+    where
+      go : (v : Verdict) → verdictOn d call ≡ v → Numbers P v → P (answerNumber (answerOf limit d call))
+      go Sound e numbers = numbers _ (heard-number e)
+      go (Refused why) e numbers = rw (refused-number e) numbers
+
+  stays-sound : StaysSound limit d call
+  stays-sound = record {
+    state = left-sound;
+    windows = left-fits;
+    not-102 = λ state.
+        number-has (λ n. n ≡ 102 → ⊥) (λ e same. omega arith) (λ e same. let z : _≡_ {A = ℕ} 0 1 = cc in omega arith)
+        (λ same. omega arith) (λ same. omega arith) (λ same. omega arith) (λ n h same. omega arith);
+    not-101 = λ fits.
+        number-has (λ n. n ≡ 101 → ⊥) (λ e same. let z : _≡_ {A = ℕ} 0 1 = cc in omega arith) (λ e same. omega arith)
+        (λ same. omega arith) (λ same. omega arith) (λ same. omega arith) (λ n h same. omega arith);
+  }
+
+  refused-for-lent : stateSound d ≡ true → windowsFit d (length (call .memory)) ≡ true → RefusedForLent limit d call
+  unfolding verdictOn verdictOf either refusalNumber
+  refused-for-lent state fits = record {
+    rings = λ no. refused-number {why = Refusal.Rings} (rw (fits, state, no));
+    pipe = λ yes short. refused-number {why = Refusal.Pipe} (rw (fits, state, yes, lt-leb 1020 (length (call .pipe)) short));
+    pack = λ yes room no. refused-number {why = Refusal.Pack} (rw (fits, state, yes, le-leb 1020 (length (call .pipe)) room, no));
+    heard = λ yes room sound. heard-number (rw (fits, state, yes, le-leb 1020 (length (call .pipe)) room, sound));
+  }
+
+pub turn-stays-sound : TurnStaysSound
+unfolding TurnStaysSound
+turn-stays-sound limit d call = stays-sound limit d call
+
+pub sound-refusals : SoundRefusals
+unfolding SoundRefusals
+sound-refusals limit d call = refused-for-lent limit d call
+
+fresh-sound : (w0 w1 w2 w3 : Window) → stateSound (freshDevice w0 w1 w2 w3) ≡ true
+unfolding freshDevice ringOf stateSound ringSound heldFault outcomeNumber
+fresh-sound w0 w1 w2 w3 = refl
+
+fresh-fits : (memory : ℕ) (w0 w1 w2 w3 : Window) → windowsFit (freshDevice w0 w1 w2 w3) memory ≡ memoryFits memory w0 w1 w2 w3
+unfolding freshDevice ringOf windowsFit
+fresh-fits memory w0 w1 w2 w3 = refl
+
+pub fresh-makes-sound : FreshMakesSound
+unfolding FreshMakesSound freshOf makingNumber refusalNumber
+fresh-makes-sound memory w0 w1 w2 w3 = record {
+  state = either-has (λ (f : Fresh). stateSound (f .device) ≡ true) _ (λ e. fresh-sound w0 w1 w2 w3) (λ e. fresh-sound _ _ _ _);
+  windows = either-has (λ (f : Fresh). makingNumber (f .answer) ≡ 0 → windowsFit (f .device) memory ≡ true) _
+      (λ fits made. fresh-fits memory w0 w1 w2 w3 ∙ fits)
+      (λ e made. absurd (omega arith));
+}
+
+-- calls one after another
+calls-refused : (limit memory : ℕ) (calls : List Call) (d : Device) → stateSound d ≡ true → windowsFit d memory ≡ true
+    → EachCall (λ d call. length (call .memory) ≡ memory → RefusedForLent limit d call) limit d calls
+calls-refused limit memory [] d state fits = none
+calls-refused limit memory (call ∷ calls) d state fits =
+    more (λ same. refused-for-lent limit d call state (rw same fits))
+    (calls-refused limit memory calls (leftBy limit d call) (left-sound limit d call state) (left-fits limit d call memory ∙ fits))
+
+pub fresh-stays-sound : FreshStaysSound
+unfolding FreshStaysSound FreshMakesSound
+fresh-stays-sound limit memory w0 w1 w2 w3 calls made =
+    let fresh = fresh-makes-sound memory w0 w1 w2 w3 in
+    calls-refused limit memory calls (freshOf memory w0 w1 w2 w3 .device) (fresh .state) (fresh .windows made)

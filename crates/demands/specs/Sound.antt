@@ -1,0 +1,66 @@
+-- Demand 1: a device stays sound, so a call on its own memory is refused only for what it lends.
+use Prim.Native.Nat.{ℕ, _≤_, _<_}
+use mathlib.Core.Path.{_≡_}
+use mathlib.Core.Bool.{Bool, true, false}
+use mathlib.Core.List.{List, [], _∷_}
+use lib.ListN.{length}
+use Rattle.kernel.specs.Pack.{soundPack}
+use Rattle.device.specs.declared.state.Window.{Window}
+use Rattle.device.specs.declared.state.Device.{Device}
+use Rattle.device.specs.Answer.{makingNumber}
+use Rattle.device.specs.Refusal.{windowsFit, stateSound, ringsFit}
+use Rattle.device.specs.Fresh.{freshOf}
+use Rattle.device.specs.Turn.{Call}
+use Rattle.demands.specs.Calls.{leftBy, numberIn}
+
+-- of a turn from any device on any input
+pub record StaysSound (limit : ℕ) (d : Device) (call : Call) : Type 0 where
+  -- a state that is not refused as 102 leaves one that is not
+  pub state : stateSound d ≡ true → stateSound (leftBy limit d call) ≡ true
+  -- the windows stay, so 101 is met only with another memory
+  pub windows : (memory : ℕ) → windowsFit (leftBy limit d call) memory ≡ windowsFit d memory
+  -- a call from such a state is not refused as 102
+  pub not-102 : stateSound d ≡ true → numberIn limit d call ≡ 102 → ⊥
+  -- a call whose memory the windows fit is not refused as 101
+  pub not-101 : windowsFit d (length (call .memory)) ≡ true → numberIn limit d call ≡ 101 → ⊥
+
+unfoldable pub TurnStaysSound : Type 0
+TurnStaysSound = (limit : ℕ) (d : Device) (call : Call) → StaysSound limit d call
+
+-- no ring that a call lends is too long or shorter than its cursor
+abbrev pub lentRingsFit : Device → Call → Bool
+lentRingsFit d call = ringsFit d (length (call .ring0)) (length (call .ring1)) (length (call .ring2)) (length (call .ring3))
+
+-- a call is refused for its rings, else for its pipe, else for its pack, and for nothing else
+pub record RefusedForLent (limit : ℕ) (d : Device) (call : Call) : Type 0 where
+  pub rings : lentRingsFit d call ≡ false → numberIn limit d call ≡ 103
+  pub pipe : lentRingsFit d call ≡ true → length (call .pipe) < 1020 → numberIn limit d call ≡ 104
+  pub pack : lentRingsFit d call ≡ true → 1020 ≤ length (call .pipe) → soundPack (call .pack) ≡ false → numberIn limit d call ≡ 105
+  -- else it is served or idle
+  pub heard : lentRingsFit d call ≡ true → 1020 ≤ length (call .pipe) → soundPack (call .pack) ≡ true → numberIn limit d call ≤ 1
+
+-- so is every call from a sound state on a memory that the windows fit
+unfoldable pub SoundRefusals : Type 0
+SoundRefusals =
+    (limit : ℕ) (d : Device) (call : Call) → stateSound d ≡ true → windowsFit d (length (call .memory)) ≡ true → RefusedForLent limit d call
+
+-- making a device over a memory of that length
+pub record MakesSound (memory : ℕ) (w0 w1 w2 w3 : Window) : Type 0 where
+  -- made or refused, its state is sound
+  pub state : stateSound (freshOf memory w0 w1 w2 w3 .device) ≡ true
+  -- made, its windows fit the memory
+  pub windows : makingNumber (freshOf memory w0 w1 w2 w3 .answer) ≡ 0 → windowsFit (freshOf memory w0 w1 w2 w3 .device) memory ≡ true
+
+unfoldable pub FreshMakesSound : Type 0
+FreshMakesSound = (memory : ℕ) (w0 w1 w2 w3 : Window) → MakesSound memory w0 w1 w2 w3
+
+-- each call, with the device that it starts from, is so
+pub data EachCall (P : Device → Call → Type 0) (limit : ℕ) : Device → List Call → Type 0 where
+  none : {d : Device} → EachCall P limit d []
+  more : {d : Device} {call : Call} {calls : List Call} → P d call → EachCall P limit (leftBy limit d call) calls → EachCall P limit d (call ∷ calls)
+
+-- over a made device, each call on a memory of the length that it was made for is refused only for what it lends
+unfoldable pub FreshStaysSound : Type 0
+FreshStaysSound =
+    (limit memory : ℕ) (w0 w1 w2 w3 : Window) (calls : List Call) → makingNumber (freshOf memory w0 w1 w2 w3 .answer) ≡ 0
+    → EachCall (λ d call. length (call .memory) ≡ memory → RefusedForLent limit d call) limit (freshOf memory w0 w1 w2 w3 .device) calls
