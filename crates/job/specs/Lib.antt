@@ -7,4 +7,5 @@ pub mod Parse
 pub mod Put
 pub mod Decimal
 pub mod Line
+pub mod WholeCase
 pub mod OneAnswer

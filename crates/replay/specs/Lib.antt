@@ -1,3 +1,4 @@
 pub mod Text
 pub mod Transcript
+pub mod WholeCase
 pub mod OneAnswer

@@ -3,7 +3,7 @@ ghost use mathlib.Core.Path.{_≡_};
 ghost use Prim.Native.Nat.{_+_, _≤_};
 ghost use lib.ListN.{length, take};
 ghost use Rattle.job.specs.Line.{idleLine, refusedLine};
-ghost use Rattle.replay.specs.Text.{Appended};
+ghost use Rattle.replay.specs.Text.{Appended, emptyText};
 ghost use Rattle.replay.specs.Transcript.{servedLine};
 use command::outcome::number;
 use device::turn::Report;
@@ -16,7 +16,7 @@ pub const TEXT_BYTES: usize = 262144;
 
 // For a caller with no bytes to lend.
 pub fn buffer() -> [u8; TEXT_BYTES]
-    ensures { λ r. ⌜ 262144 ≡ length r ⌝ }
+    ensures { λ r. ⌜ r ≡ emptyText ⌝ }
 {
     [0; TEXT_BYTES]
 }
