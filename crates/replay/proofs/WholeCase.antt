@@ -5,7 +5,8 @@ use Rattle.job.specs.Parts.{bytesOf}
 use Rattle.job.specs.Decimal.{digits, decimal}
 use Rattle.job.specs.Line.{lineOf, turnLine, idleLine}
 use Rattle.job.proofs.WholeCase.{its-parts}
-use Rattle.device.specs.State.{freshDevice, ringOf, slotOf, withRing, withSlot, withMarker}
+use Rattle.device.specs.State.{freshDevice, ringOf, slotOf, withRing, withSlots, withMarker}
+use Rattle.device.specs.Slots.{emittedIn}
 use Rattle.device.specs.Refusal.{windowFits, memoryFits, windowsFit, ringSound, stateSound, ringFits, ringsFit, verdictOf}
 use Rattle.device.specs.Ready.{readyWith, readyWhere, readyAt, nextRing, seek, bytesOfRing, pickOf}
 use Rattle.device.specs.Left.{leftOf, sumOf, bytesLeft}
@@ -31,5 +32,5 @@ use Rattle.replay.specs.WholeCase.{WholeCase}
 use Rattle.replay.proofs.JobText.{accepted-text}
 
 pub whole-case : WholeCase
-unfolding wholeCase bytesOf digits decimal lineOf turnLine idleLine freshDevice ringOf slotOf withRing withSlot withMarker windowFits memoryFits windowsFit ringSound stateSound ringFits ringsFit verdictOf readyWith readyWhere readyAt nextRing seek bytesOfRing pickOf leftOf sumOf bytesLeft freshOf valuesOf unchanged fenceOf emitTo ringAfter deviceAfter reportOf finished servedOf pickedOf judgedOf verdictOn turnOf either rowOf waitSize payloadSize targetAt commandAt isWhole outcomeNumber unknownOpcode wrongPayloadBit noSuchSlot headerFault heldFault isRectangle slotFault misaligned unframed outside unfitFrame unfitDispatch checkOf emits wordsRead leaves workOf orElse faultOf guarded performedOf wordAt windowOf putBack kernelCount codeCount allLie soundPack linesOf linesFrom allLines emptyPipe firstCall freshFor playedOn jobText
+unfolding wholeCase bytesOf digits decimal lineOf turnLine idleLine freshDevice ringOf slotOf withRing withSlots emittedIn withMarker windowFits memoryFits windowsFit ringSound stateSound ringFits ringsFit verdictOf readyWith readyWhere readyAt nextRing seek bytesOfRing pickOf leftOf sumOf bytesLeft freshOf valuesOf unchanged fenceOf emitTo ringAfter deviceAfter reportOf finished servedOf pickedOf judgedOf verdictOn turnOf either rowOf waitSize payloadSize targetAt commandAt isWhole outcomeNumber unknownOpcode wrongPayloadBit noSuchSlot headerFault heldFault isRectangle slotFault misaligned unframed outside unfitFrame unfitDispatch checkOf emits wordsRead leaves workOf orElse faultOf guarded performedOf wordAt windowOf putBack kernelCount codeCount allLie soundPack linesOf linesFrom allLines emptyPipe firstCall freshFor playedOn jobText
 whole-case = rw (accepted-text wholeCase its-parts)
