@@ -11,7 +11,7 @@ use device::state::Ring;
 
 // The words of a ring are an array of u32, so each is below 2^32.
 fn of_every_ring(ring: Ring) -> [u32; 7]
-    ensures { λ _. ⌜ ((k : ℕ) → getD (ringWords ring) k 0 < 2 ^ 32) ⌝ }
+    ensures { λ r. ⌜ (r ≡ ringWords ring) × ((k : ℕ) → getD (ringWords ring) k 0 < 2 ^ 32) ⌝ }
 {
     ring_words(ring)
 }
@@ -29,7 +29,7 @@ pub fn of_every_device(d: Device) -> Device
 
 // The first byte, or 0: that lent bytes are bytes is this contract.
 pub fn of_lent_bytes(bytes: &[u8]) -> u8
-    ensures { λ _. ⌜ OfBytes (now (bytes .entry)) ⌝ }
+    ensures { λ r. ⌜ (r ≡ getD (now (bytes .entry)) 0 0) × OfBytes (now (bytes .entry)) ⌝ }
 {
     if 0 < bytes.len() { bytes[0] } else { 0 }
 }

@@ -40,10 +40,10 @@ returns c =
       imaged _
           (formed _ (typed .shaped)
           (each-of-four _
-          (rw (← c .before .before .before .before .before .before .before .before .ring .ensures) (record { at = c .before .before .before .before .before .before .before .of-every-ring .ensures }))
-          (rw (← c .before .before .before .before .before .before .ring2 .ensures) (record { at = c .before .before .before .before .before .of-every-ring2 .ensures }))
-          (rw (← c .before .before .before .before .ring3 .ensures) (record { at = c .before .before .before .of-every-ring3 .ensures }))
-          (rw (← c .before .before .ring4 .ensures) (record { at = c .before .of-every-ring4 .ensures })))
+          (rw (← c .before .before .before .before .before .before .before .before .ring .ensures) (record { at = c .before .before .before .before .before .before .before .of-every-ring .ensures .1 }))
+          (rw (← c .before .before .before .before .before .before .ring2 .ensures) (record { at = c .before .before .before .before .before .of-every-ring2 .ensures .1 }))
+          (rw (← c .before .before .before .before .ring3 .ensures) (record { at = c .before .before .before .of-every-ring3 .ensures .1 }))
+          (rw (← c .before .before .ring4 .ensures) (record { at = c .before .of-every-ring4 .ensures .1 })))
           (slots-row _ (typed .slots-fit))
           (typed .marker-fits)),
     )

@@ -10,9 +10,12 @@ ring-words-requires : tie.Need-ring-words-requires
 ring-words-requires c κs = search needs
 
 returns : tie.Need-returns
-returns c = λ k.
-    let word : Fits w32 (getD (c .ring-words .result) k 0) = search needs in
-    rw (← c .ring-words .ensures) (word .fits)
+returns c = (
+  c .ring-words .ensures,
+  λ k.
+      let word : Fits w32 (getD (c .ring-words .result) k 0) = search needs in
+      rw (← c .ring-words .ensures) (word .fits),
+)
 
 pub of-every-ring-spec : {M : Type 1} → statement M
 of-every-ring-spec = tie.close (tie.spec ring-words-requires returns)

@@ -1,5 +1,6 @@
 -- `capi::by_type::of_lent_bytes` meets its contract. Assumes nothing.
-use mathlib.Core.Path.{_≡_}
+use mathlib.Core.Path.{_≡_, refl, sym}
+use Prim.Native.Nat.{ℕ}
 use denote.Ref.{now}
 use lib.ListN.{getD, List·getD-eq-default}
 use native.Mathlib.Omega.{arith}
@@ -11,14 +12,14 @@ shared-slice-read-result : tie.Need-shared-slice-read-result
 shared-slice-read-result c = search needs
 
 returns : tie.Need-returns
-returns c = λ i. omega (arith, c .shared-slice-known .given i)
+returns c = (refl, λ i. omega (arith, c .shared-slice-known .given i))
 
--- there are none: what is past the end reads 0
+-- where there are none, each place is past the end
 returns-2 : tie.Need-returns-2
-returns-2 c = λ i.
+returns-2 c =
     let bytes = now (c .before .args .bytes) in
-    let none : _≡_ (getD bytes i 0) 0 = List·getD-eq-default bytes 0 (omega arith) in
-    omega (arith, none)
+    let none : (i : ℕ) → _≡_ (getD bytes i 0) 0 = λ i. List·getD-eq-default bytes 0 (omega arith) in
+    (sym (none 0), λ i. omega (arith, none i))
 
 pub of-lent-bytes-spec : {M : Type 1} → statement M
 of-lent-bytes-spec = tie.close (tie.spec shared-slice-read-result returns returns-2)
