@@ -93,7 +93,7 @@ module _ (P : List ℕ → Type 0) where
   unfolding copied
   copied-keeps to from words m keeps h =
       after-keeps _ P words m
-      (λ i m′ below. with-word-keeps m′ (to + 4 * i) _ (keeps-within to (to + 4 * words) _ _ (omega arith) (omega arith) keeps))
+      (λ i m′ below. with-word-keeps m′ _ _ (keeps-within to (to + 4 * words) _ _ (omega arith) (omega arith) keeps))
       h
 
   pub blitted-keeps : (to from stride width height : ℕ) (m : List ℕ)
