@@ -47,7 +47,7 @@ goesOn t = record { thread = advanced t; progress = Running }
 unfoldable pub ends : Thread → Stepped
 ends t = record { thread = advanced t; progress = Ended }
 
--- a taken branch must land on a multiple of 4 inside the kernel; a place before its start wraps to one past its end
+-- a taken branch must land on a multiple of 4 inside the kernel; in a sound pack a place before its start wraps to one past its end
 unfoldable pub lands : ℕ → ℕ → Bool
 lands length place = eqb (place % 4) 0 && ltb place length
 
