@@ -3,7 +3,7 @@
 use mathlib.Core.List.{List, [], _∷_, _++_}
 use Prim.Native.Nat.{ℕ, zero, suc, _^_, _<_}
 use native.Mathlib.Omega.{arith}
-use lib.ListN.{getD, set, replicate}
+use lib.ListN.{getD, replicate}
 
 -- each number is below 2^32
 pub record Fits (xs : List ℕ) : Type 0 where
@@ -34,11 +34,6 @@ fits-left (x ∷ xs) ys h = fits-more (h .at 0) (fits-left xs ys (fits-rest h))
 pub fits-right : (xs : List ℕ) {ys : List ℕ} → Fits (xs ++ ys) → Fits ys
 fits-right [] h = h
 fits-right (x ∷ xs) h = fits-right xs (fits-rest h)
-
-pub fits-set : (xs : List ℕ) (n x : ℕ) → Fits xs → x < 2 ^ 32 → Fits (set xs n x)
-fits-set [] n x h new = h
-fits-set (y ∷ xs) zero x h new = fits-more new (fits-rest h)
-fits-set (y ∷ xs) (suc n) x h new = fits-more (h .at 0) (fits-set xs n x (fits-rest h) new)
 
 pub fits-zeros : (n : ℕ) → Fits (replicate n 0)
 fits-zeros zero = fits-none

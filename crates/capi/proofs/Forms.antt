@@ -27,8 +27,7 @@ use Rattle.device.specs.declared.refusal.Verdict.{Verdict}
 use Rattle.device.specs.declared.refusal.Verdict.the-variants.{Sound, Refused}
 use Rattle.device.specs.declared.ready.Picked.{Picked}
 use Rattle.device.specs.declared.ready.Picked.the-variants.{Ring as RingOf, Nobody}
-use Rattle.device.specs.Slots.{emitted, emittedIn}
-use Rattle.device.specs.State.{Shaped, emptyWindow, freshDevice, ringOf, withRing, withSlots, withMarker}
+use Rattle.device.specs.State.{Shaped, SlotsFit, emptyWindow, freshDevice, ringOf, slotOf, withRing, withMarker}
 use Rattle.device.specs.Refusal.{memoryFits}
 use Rattle.device.specs.Ready.{bytesOfRing, pickOf}
 use Rattle.device.specs.Fresh.{freshOf}
@@ -37,11 +36,11 @@ use Rattle.device.proofs.Seeks.{next-below}
 use Rattle.device.proofs.Verdicts.{each-of-four, servable}
 use Rattle.device.proofs.Wholes.{whole-inside}
 use Rattle.device.proofs.BytesLeft.{served-ring, other-ring}
-use Rattle.device.proofs.Shapes.{after-shaped, fresh-shaped}
+use Rattle.device.proofs.Shapes.{emit-fits, after-shaped, fresh-shaped}
 use Rattle.capi.specs.Image.{heldOf, baseOf, formatOf, ringWords, ringsWords, wordsOf, windowAt}
 use Rattle.capi.specs.Inverse.{Formed}
 use Rattle.capi.specs.Follows.{OfBytes, RingsOfBytes, FreshForms, TurnForms}
-use Rattle.capi.proofs.Fits.{Fits, fits-none, fits-more, fits-both, fits-left, fits-right, fits-set, fits-zeros}
+use Rattle.capi.proofs.Fits.{Fits, fits-none, fits-more, fits-both, fits-left, fits-right, fits-zeros}
 
 -- what is below 2^32 in a frame, and in a ring
 record FrameFits (f : Frame) : Type 0 where
@@ -114,11 +113,14 @@ module _ (ring : List ℕ) (bytes : OfBytes ring) (cursor slot : ℕ) (window : 
       (λ fine. work-has c ring window frame pack pipe limit Held (λ e. h) (λ e. h) (λ e. h) (λ e. h) (λ e. h) (λ e. h) (λ e. held-fits) h)
       (λ faulty. h)
 
--- an emit leaves numbers that fit
-emit-fits : (b : Bool) (d : Device) (n : ℕ) → Fits (d .slots) → Fits (emitTo b d n .slots)
-unfolding emitTo either withSlots emittedIn
-emit-fits true d n h = fits-set (d .slots) n (emitted (getD (d .slots) n 0)) h (omega arith)
-emit-fits false d n h = h
+-- the slots as a row of numbers
+pub slots-row : (d : Device) → SlotsFit d → Fits (d .slots)
+unfolding SlotsFit slotOf
+slots-row d fit = record { at = fit }
+
+row-slots : (d : Device) → Fits (d .slots) → SlotsFit d
+unfolding SlotsFit slotOf
+row-slots d row = row .at
 
 -- so a served command leaves a formed device
 module _ (d : Device) (q : ℕ) (c : Command) (p : Performed) (is : Formed d) (four : q < 4) (cursor : ringAfter (ringOf d q) c (p .frame) .cursor < 2 ^ 32)
@@ -140,7 +142,7 @@ module _ (d : Device) (q : ℕ) (c : Command) (p : Performed) (is : Formed d) (f
   unfolding deviceAfter withMarker withRing
   after-formed =
       formed (deviceAfter d q c p) (after-shaped d q c p (is .shaped)) ring-after
-      (emit-fits (emits c (p .outcome)) (withRing d q (ringAfter (ringOf d q) c (p .frame))) (c .rdst) (slots-in d is))
+      (slots-row _ (emit-fits (emits c (p .outcome)) (withRing d q (ringAfter (ringOf d q) c (p .frame))) (c .rdst) (row-slots _ (slots-in d is))))
       (omega (arith, next-below q four))
 
 module _ (limit : ℕ) (d : Device) (call : Call) (is : Formed d) (bytes : RingsOfBytes call) where

@@ -1,18 +1,12 @@
 -- What a formed device and its image have.
 -- Assumes nothing.
 use Rattle.device.specs.declared.state.Device.{Device}
-use Rattle.device.specs.State.{slotOf, SlotsFit}
 use Rattle.capi.specs.Inverse.{Formed}
 use Rattle.capi.specs.Imaged.{Imaged}
-use Rattle.capi.proofs.Fits.{Fits}
 use Rattle.capi.proofs.Sizes.{encode-length}
 use Rattle.capi.proofs.Inverse.{decode-encode}
 use Rattle.capi.proofs.Follows.{turn-follows}
 use Rattle.capi.proofs.Forms.{turn-forms}
-
-pub slots-row : (d : Device) → SlotsFit d → Fits (d .slots)
-unfolding SlotsFit slotOf
-slots-row d fit = record { at = fit }
 
 pub imaged : (d : Device) → Formed d → Imaged d
 imaged d formed = record {

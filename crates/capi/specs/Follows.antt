@@ -27,6 +27,7 @@ followed a = record {
 abbrev pub FollowsFrom : Device → Type 0
 FollowsFrom d = (report : List ℕ) (call : Call) → length report ≡ 24 → turnCall (encode d) report call ≡ followed (turnOf stepLimit d call)
 
+-- of every formed device
 abbrev pub TurnFollows : Type 0
 TurnFollows = (d : Device) → Formed d → FollowsFrom d
 
@@ -42,9 +43,10 @@ RingsOfBytes call = (q : ℕ) → OfBytes (bytesOfRing q (call .ring0) (call .ri
 abbrev pub FreshForms : Type 0
 FreshForms = (windows : List ℕ) (memory : ℕ) → OfBytes windows → Formed (freshFor windows memory .device)
 
--- and so is the device that a turn of a formed one leaves
+-- a turn over rings of bytes leaves a formed device
 abbrev pub FormsFrom : Device → Type 0
 FormsFrom d = (limit : ℕ) (call : Call) → RingsOfBytes call → Formed (turnOf limit d call .turned .device)
 
+-- if it starts from one
 abbrev pub TurnForms : Type 0
 TurnForms = (d : Device) → Formed d → FormsFrom d

@@ -13,6 +13,6 @@ pub record Imaged (d : Device) : Type 0 where
   -- its image has 372 bytes, and read back it is the device
   pub long : length (encode d) ≡ 372
   pub back : decode (encode d) ≡ d
-  -- a call over its image is its turn, which leaves a formed device
+  -- a call over its image is its turn, which leaves a formed device if the rings lent are of bytes
   pub follows : FollowsFrom d
   pub forms : FormsFrom d

@@ -1,7 +1,7 @@
 -- The demands hold: each statement of specs/, with nothing left to assume.
 use Rattle.demands.specs.FourTurns.{FourTurns, FourTurnsByHead}
 use Rattle.demands.specs.Keeps.{TurnKeeps, FreshMakes}
-use Rattle.demands.specs.Sound.{TurnStaysSound, SoundRefusals, FreshMakesSound, FreshStaysSound}
+use Rattle.demands.specs.Sound.{TurnStaysSound, SoundRefusals, FreshMakesSound, CallsStaySound, FreshStaysSound}
 use Rattle.demands.specs.Reports.{TurnReports}
 use Rattle.demands.specs.Bounded.{TurnsBounded, IdleInTime, FreshIdleInTime}
 use Rattle.demands.specs.Idle.{IdleIsDone}
@@ -34,6 +34,9 @@ sound-refusals = sound.sound-refusals
 
 pub fresh-makes-sound : FreshMakesSound
 fresh-makes-sound = sound.fresh-makes-sound
+
+pub calls-stay-sound : CallsStaySound
+calls-stay-sound = sound.calls-stay-sound
 
 pub fresh-stays-sound : FreshStaysSound
 fresh-stays-sound = sound.fresh-stays-sound

@@ -19,6 +19,7 @@ use Rattle.device.specs.State.{SlotsFit, emptyWindow, freshRing, ringOf, slotOf
 use Rattle.device.specs.Ready.{nextRing}
 use Rattle.device.specs.Turn.{emitTo, ringAfter, deviceAfter}
 use Rattle.device.proofs.BytesLeft.{rings-after}
+use Rattle.device.proofs.Shapes.{emit-fits}
 
 -- a number put in one place of a list, no less than what it held, lowers no place
 put-rises : (xs : List ℕ) (n v m : ℕ) → getD xs n 0 ≤ v → getD xs m 0 ≤ getD (set xs n v) m 0
@@ -27,14 +28,6 @@ put-rises (x ∷ xs) zero v zero h = h
 put-rises (x ∷ xs) zero v (suc m) h = le-refl _
 put-rises (x ∷ xs) (suc n) v zero h = le-refl _
 put-rises (x ∷ xs) (suc n) v (suc m) h = put-rises xs n v m h
-
--- and every place stays below a bound that the number is below
-put-below : (k : ℕ) (xs : List ℕ) (n v m : ℕ) → getD xs m 0 < k → v < k → getD (set xs n v) m 0 < k
-put-below k [] n v m h new = h
-put-below k (x ∷ xs) zero v zero h new = new
-put-below k (x ∷ xs) zero v (suc m) h new = h
-put-below k (x ∷ xs) (suc n) v zero h new = h
-put-below k (x ∷ xs) (suc n) v (suc m) h new = put-below k xs n v m h new
 
 -- what holds of a ring put in place q, if that is place n, and of what place n held, holds of place n after it
 put-each : (P : Ring → Type 0) (xs : List Ring) (q : ℕ) (ring : Ring) (n : ℕ) → (n ≡ q → P ring) → P (getD xs n (freshRing emptyWindow))
@@ -54,11 +47,6 @@ emit-rises true d n fit room m =
     put-rises (d .slots) n (emitted (getD (d .slots) n 0)) m (omega arith)
 emit-rises false d n fit room m = le-refl _
 
-pub emit-below : (b : Bool) (d : Device) (n : ℕ) → SlotsFit d → SlotsFit (emitTo b d n)
-unfolding emitTo either withSlots emittedIn slotOf SlotsFit
-emit-below true d n fit m = put-below (2 ^ 32) (d .slots) n (emitted (getD (d .slots) n 0)) m (fit m) (omega arith)
-emit-below false d n fit m = fit m
-
 module _ (d : Device) (q : ℕ) (c : Command) (p : Performed) where
   -- the marker becomes the ring after the served one
   pub after-marker : deviceAfter d q c p .marker ≡ nextRing q
@@ -73,7 +61,7 @@ module _ (d : Device) (q : ℕ) (c : Command) (p : Performed) where
 
   pub after-fits : SlotsFit d → SlotsFit (deviceAfter d q c p)
   unfolding deviceAfter withMarker withRing slotOf SlotsFit
-  after-fits fit = emit-below (emits c (p .outcome)) (withRing d q (ringAfter (ringOf d q) c (p .frame))) (c .rdst) fit
+  after-fits fit = emit-fits (emits c (p .outcome)) (withRing d q (ringAfter (ringOf d q) c (p .frame))) (c .rdst) fit
 
   -- what holds of the served ring after its command, if it is ring n, and held of ring n, holds of ring n
   pub after-ring : (P : Ring → Type 0) (n : ℕ) → (n ≡ q → P (ringAfter (ringOf d q) c (p .frame))) → P (ringOf d n) → P (ringOf (deviceAfter d q c p) n)

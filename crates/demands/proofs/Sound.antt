@@ -1,6 +1,6 @@
 -- A device stays sound, so a call on its own memory is refused only for what it lends.
 -- Assumes nothing.
-use mathlib.Core.Path.{_≡_, refl, ap, _∙_}
+use mathlib.Core.Path.{_≡_, refl, sym, ap, _∙_}
 use mathlib.Core.Bool.{true, false}
 use mathlib.Core.List.{List, [], _∷_}
 use Prim.Native.Nat.{ℕ, _+_, _≤_, _<_}
@@ -21,17 +21,17 @@ use Rattle.device.specs.declared.refusal.Verdict.{Verdict}
 use Rattle.device.specs.declared.refusal.Verdict.the-variants.{Sound, Refused}
 use Rattle.device.specs.declared.ready.Picked.the-variants.{Ring as RingOf}
 use Rattle.device.specs.declared.fresh.Fresh.{Fresh}
-use Rattle.device.specs.State.{freshDevice, ringOf, slotOf}
+use Rattle.device.specs.State.{emptyWindow, freshDevice, ringOf, slotOf}
 use Rattle.device.specs.Answer.{answerNumber, makingNumber}
-use Rattle.device.specs.Refusal.{refusalNumber, memoryFits, windowsFit, ringSound, stateSound, verdictOf}
+use Rattle.device.specs.Refusal.{refusalNumber, windowFits, memoryFits, windowsFit, ringSound, stateSound, verdictOf}
 use Rattle.device.specs.Fresh.{freshOf}
 use Rattle.device.specs.Turn.{Call, unchanged, ringAfter, reportOf, finished, servedOf, judgedOf, verdictOn, turnOf}
 use Rattle.device.proofs.Seeks.{next-below}
 use Rattle.device.proofs.Verdicts.{all-four}
 use Rattle.device.proofs.Wholes.{whole-inside}
-use Rattle.demands.specs.Calls.{ringIn, headIn, answerOf, leftBy}
+use Rattle.demands.specs.Calls.{ringIn, headIn, answerOf, leftBy, none, more}
 use Rattle.demands.specs.EachStep.{windowIn}
-use Rattle.demands.specs.Sound.{StaysSound, TurnStaysSound, RefusedForLent, SoundRefusals, FreshMakesSound, EachCall, none, more, FreshStaysSound}
+use Rattle.demands.specs.Sound.{StaysSound, TurnStaysSound, RefusedForLent, SoundRefusals, FreshMakesSound, CallsStaySound, FreshStaysSound}
 use Rattle.demands.proofs.Turns.{pickIn, servedIn, workIn, turn-cases, picked-servable}
 use Rattle.demands.proofs.Devices.{after-marker, after-ring, after-windows}
 
@@ -132,16 +132,19 @@ module _ (limit : ℕ) (d : Device) (call : Call) where
       go Sound e numbers = numbers _ (heard-number e)
       go (Refused why) e numbers = rw (refused-number e) numbers
 
+  -- so 101 and 102 are no number of a call where they may not be given
+  number-not : (k : ℕ) → 2 ≤ k → k ≤ 102 → (windowsFit d (length (call .memory)) ≡ false → k ≡ 101 → ⊥) → (stateSound d ≡ false → k ≡ 102 → ⊥)
+      → answerNumber (answerOf limit d call) ≡ k → ⊥
+  number-not k low high memory state =
+      number-has (λ n. n ≡ k → ⊥) (λ e same. memory e (sym same)) (λ e same. state e (sym same))
+      (λ same. omega arith) (λ same. omega arith) (λ same. omega arith) (λ n h same. omega arith)
+
   stays-sound : StaysSound limit d call
   stays-sound = record {
     state = left-sound;
     windows = left-fits;
-    not-102 = λ state.
-        number-has (λ n. n ≡ 102 → ⊥) (λ e same. omega arith) (λ e same. let z : _≡_ {A = ℕ} 0 1 = cc in omega arith)
-        (λ same. omega arith) (λ same. omega arith) (λ same. omega arith) (λ n h same. omega arith);
-    not-101 = λ fits.
-        number-has (λ n. n ≡ 101 → ⊥) (λ e same. let z : _≡_ {A = ℕ} 0 1 = cc in omega arith) (λ e same. omega arith)
-        (λ same. omega arith) (λ same. omega arith) (λ same. omega arith) (λ n h same. omega arith);
+    not-102 = λ state. number-not 102 (lit≤ tt) (lit≤ tt) (λ e same. omega arith) (λ e same. let z : _≡_ {A = ℕ} 0 1 = cc in omega arith);
+    not-101 = λ fits. number-not 101 (lit≤ tt) (lit≤ tt) (λ e same. let z : _≡_ {A = ℕ} 0 1 = cc in omega arith) (λ e same. omega arith);
   }
 
   refused-for-lent : stateSound d ≡ true → windowsFit d (length (call .memory)) ≡ true → RefusedForLent limit d call
@@ -169,6 +172,11 @@ fresh-fits : (memory : ℕ) (w0 w1 w2 w3 : Window) → windowsFit (freshDevice w
 unfolding freshDevice ringOf windowsFit
 fresh-fits memory w0 w1 w2 w3 = refl
 
+-- four empty windows fit every memory that is not too long
+empty-fit : (n : ℕ) → n ≤ 1048576 → memoryFits n emptyWindow emptyWindow emptyWindow emptyWindow ≡ true
+unfolding memoryFits windowFits
+empty-fit n short = rw (le-leb n 1048576 short, le-leb 0 n (omega arith))
+
 pub fresh-makes-sound : FreshMakesSound
 unfolding FreshMakesSound freshOf makingNumber refusalNumber
 fresh-makes-sound memory w0 w1 w2 w3 = record {
@@ -176,18 +184,20 @@ fresh-makes-sound memory w0 w1 w2 w3 = record {
   windows = either-has (λ (f : Fresh). makingNumber (f .answer) ≡ 0 → windowsFit (f .device) memory ≡ true) _
       (λ fits made. fresh-fits memory w0 w1 w2 w3 ∙ fits)
       (λ e made. absurd (omega arith));
+  empty = either-has (λ (f : Fresh). makingNumber (f .answer) ≡ 101 → (n : ℕ) → n ≤ 1048576 → windowsFit (f .device) n ≡ true) _
+      (λ e made. absurd (omega arith))
+      (λ e refused n short. fresh-fits n _ _ _ _ ∙ empty-fit n short);
 }
 
--- calls one after another
-calls-refused : (limit memory : ℕ) (calls : List Call) (d : Device) → stateSound d ≡ true → windowsFit d memory ≡ true
-    → EachCall (λ d call. length (call .memory) ≡ memory → RefusedForLent limit d call) limit d calls
-calls-refused limit memory [] d state fits = none
-calls-refused limit memory (call ∷ calls) d state fits =
-    more (λ same. refused-for-lent limit d call state (rw same fits))
-    (calls-refused limit memory calls (leftBy limit d call) (left-sound limit d call state) (left-fits limit d call memory ∙ fits))
+pub calls-stay-sound : CallsStaySound
+unfolding CallsStaySound
+calls-stay-sound limit memory d [] state fits = none
+calls-stay-sound limit memory d (call ∷ calls) state fits =
+    more (record { not-102 = stays-sound limit d call .not-102 state; lent = λ same. refused-for-lent limit d call state (rw same fits) })
+    (calls-stay-sound limit memory (leftBy limit d call) calls (left-sound limit d call state) (left-fits limit d call memory ∙ fits))
 
 pub fresh-stays-sound : FreshStaysSound
-unfolding FreshStaysSound FreshMakesSound
+unfolding FreshStaysSound FreshMakesSound CallsStaySound
 fresh-stays-sound limit memory w0 w1 w2 w3 calls made =
     let fresh = fresh-makes-sound memory w0 w1 w2 w3 in
-    calls-refused limit memory calls (freshOf memory w0 w1 w2 w3 .device) (fresh .state) (fresh .windows made)
+    calls-stay-sound limit memory (freshOf memory w0 w1 w2 w3 .device) calls (fresh .state) (fresh .windows made)

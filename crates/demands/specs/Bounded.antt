@@ -42,6 +42,7 @@ abbrev pub BoundedFrom : Device → Type 0
 BoundedFrom d =
     (limit : ℕ) (R : ℕ → List ℕ) (calls : List Call) → EachHeard (Lends R) limit d calls → 16 * sumOf 4 (taken limit d calls) ≤ leftIn R d
 
+-- of every device with four rings
 unfoldable pub TurnsBounded : Type 0
 TurnsBounded = (d : Device) → Shaped d → BoundedFrom d
 
@@ -51,6 +52,7 @@ IdleInTimeFrom d =
     (limit : ℕ) (R : ℕ → List ℕ) (calls : List Call) → EachHeard (Lends R) limit d calls
     → leftIn R d < 16 * heard limit d calls → SaysIdle limit d calls
 
+-- of every device with four rings
 unfoldable pub IdleInTime : Type 0
 IdleInTime = (d : Device) → Shaped d → IdleInTimeFrom d
 

@@ -30,15 +30,15 @@ answerOf limit d call = turnOf limit d call .turned .answer
 abbrev pub leftBy : ℕ → Device → Call → Device
 leftBy limit d call = turnOf limit d call .turned .device
 
--- its number: 0 served, 1 idle, 101 to 105 refused
+-- a call's number: 0 served, 1 idle, 101 to 105 refused
 abbrev pub numberIn : ℕ → Device → Call → ℕ
 numberIn limit d call = answerNumber (answerOf limit d call)
 
--- the values that it reports
+-- the values that a call reports
 abbrev pub valuesIn : ℕ → Device → Call → Values
 valuesIn limit d call = valuesOf (answerOf limit d call)
 
--- the ring that it serves
+-- the ring that a call serves; 0 if it serves none
 abbrev pub ringServed : ℕ → Device → Call → ℕ
 ringServed limit d call = valuesIn limit d call .ring
 
@@ -56,11 +56,14 @@ unfoldable pub heard : ℕ → Device → List Call → ℕ
 heard limit d [] = 0
 heard limit d (call ∷ calls) = either (isRefused (answerOf limit d call)) 0 1 + heard limit (leftBy limit d call) calls
 
+-- each call, with the device that it starts from, is so
+pub data EachCall (P : Device → Call → Type 0) (limit : ℕ) : Device → List Call → Type 0 where
+  none : {d : Device} → EachCall P limit d []
+  more : {d : Device} {call : Call} {calls : List Call} → P d call → EachCall P limit (leftBy limit d call) calls → EachCall P limit d (call ∷ calls)
+
 -- each call that is not refused is so
-pub data EachHeard (P : Call → Type 0) (limit : ℕ) : Device → List Call → Type 0 where
-  none : {d : Device} → EachHeard P limit d []
-  more : {d : Device} {call : Call} {calls : List Call} → (isRefused (answerOf limit d call) ≡ false → P call)
-      → EachHeard P limit (leftBy limit d call) calls → EachHeard P limit d (call ∷ calls)
+abbrev pub EachHeard : (Call → Type 0) → ℕ → Device → List Call → Type 0
+EachHeard P limit d calls = EachCall (λ d call. isRefused (answerOf limit d call) ≡ false → P call) limit d calls
 
 -- one of the calls serves ring q while its cursor is this
 pub data Serves (limit q cursor : ℕ) : Device → List Call → Type 0 where

@@ -1,4 +1,5 @@
--- The demands on a device, with nothing asked of it: the contract of `of_every_device` says them of every `Device`.
+-- What is demanded of the turns of a device, with nothing asked of it: the contract of `of_every_device` says it of every
+-- `Device`. What is said from fresh (`Idle.IdleIsDone` and its like) asks nothing either.
 use Prim.Native.Nat.{ℕ}
 use Rattle.device.specs.declared.state.Device.{Device}
 use Rattle.device.specs.Turn.{Call}

@@ -48,7 +48,7 @@ pub record Dispatches (d : Device) (call : Call) (q : ℕ) : Type 0 where
   pub opcode : headIn d call q .opcode ≡ dispatch1D
   pub no-fault : isDone (faultOf (headIn d call q) (slotOf d (headIn d call q .rdst)) (length (windowIn d call q)) (ringOf d q .frame) (call .pack)) ≡ true
 
--- its kernel is arg2
+-- its kernel, number arg2 of the pack
 abbrev pub kernelIn : Device → Call → ℕ → Kernel
 kernelIn d call q = kernelOf (call .pack) (headIn d call q .arg2)
 
@@ -166,6 +166,7 @@ OutOfStepsIn limit d call q =
 abbrev pub stopNumber : Stop → ℕ
 stopNumber why = outcomeNumber (ranOutcome (StoppedFor why))
 
+-- a turn on any input, down to each step
 pub record StepByStep (limit : ℕ) (d : Device) (call : Call) : Type 0 where
   -- a turn that serves a DISPATCH_1D with no fault leaves what its threads leave
   pub served : numberIn limit d call ≡ 0 → Dispatches d call (ringServed limit d call)

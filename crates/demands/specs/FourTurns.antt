@@ -22,6 +22,7 @@ FourTurnsFrom d =
     (limit q : ℕ) (b : List ℕ) (calls : List Call) → q < 4 → readyAt d q b ≡ true
     → EachHeard (λ call. ringIn call q ≡ b) limit d calls → 4 ≤ heard limit d calls → Serves limit q (ringOf d q .cursor) d calls
 
+-- of every device whose slots hold 32-bit numbers
 unfoldable pub FourTurns : Type 0
 FourTurns = (d : Device) → SlotsFit d → FourTurnsFrom d
 
@@ -32,5 +33,6 @@ FourTurnsByHeadFrom d =
     → EachHeard (λ call. SameHead b (ringOf d q .cursor) (ringIn call q)) limit d calls → 4 ≤ heard limit d calls
     → Serves limit q (ringOf d q .cursor) d calls
 
+-- of every device whose slots hold 32-bit numbers
 unfoldable pub FourTurnsByHead : Type 0
 FourTurnsByHead = (d : Device) → SlotsFit d → FourTurnsByHeadFrom d

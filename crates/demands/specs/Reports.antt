@@ -69,5 +69,6 @@ pub record Serving (limit : ℕ) (d : Device) (call : Call) (v : Values) : Type 
 abbrev pub ReportsFrom : Device → Type 0
 ReportsFrom d = (limit : ℕ) (call : Call) → numberIn limit d call ≡ 0 → Serving limit d call (valuesIn limit d call)
 
+-- of every device with four rings and 64 slots of 32 bits
 unfoldable pub TurnReports : Type 0
 TurnReports = (d : Device) → Shaped d → SlotsFit d → ReportsFrom d

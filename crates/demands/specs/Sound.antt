@@ -2,7 +2,7 @@
 use Prim.Native.Nat.{ℕ, _≤_, _<_}
 use mathlib.Core.Path.{_≡_}
 use mathlib.Core.Bool.{Bool, true, false}
-use mathlib.Core.List.{List, [], _∷_}
+use mathlib.Core.List.{List}
 use lib.ListN.{length}
 use Rattle.kernel.specs.Pack.{soundPack}
 use Rattle.device.specs.declared.state.Window.{Window}
@@ -11,7 +11,7 @@ use Rattle.device.specs.Answer.{makingNumber}
 use Rattle.device.specs.Refusal.{windowsFit, stateSound, ringsFit}
 use Rattle.device.specs.Fresh.{freshOf}
 use Rattle.device.specs.Turn.{Call}
-use Rattle.demands.specs.Calls.{leftBy, numberIn}
+use Rattle.demands.specs.Calls.{leftBy, numberIn, EachCall}
 
 -- of a turn from any device on any input
 pub record StaysSound (limit : ℕ) (d : Device) (call : Call) : Type 0 where
@@ -50,17 +50,25 @@ pub record MakesSound (memory : ℕ) (w0 w1 w2 w3 : Window) : Type 0 where
   pub state : stateSound (freshOf memory w0 w1 w2 w3 .device) ≡ true
   -- made, its windows fit the memory
   pub windows : makingNumber (freshOf memory w0 w1 w2 w3 .answer) ≡ 0 → windowsFit (freshOf memory w0 w1 w2 w3 .device) memory ≡ true
+  -- refused, they are empty and fit every memory that is not too long
+  pub empty : makingNumber (freshOf memory w0 w1 w2 w3 .answer) ≡ 101 → (n : ℕ) → n ≤ 1048576 → windowsFit (freshOf memory w0 w1 w2 w3 .device) n ≡ true
 
 unfoldable pub FreshMakesSound : Type 0
 FreshMakesSound = (memory : ℕ) (w0 w1 w2 w3 : Window) → MakesSound memory w0 w1 w2 w3
 
--- each call, with the device that it starts from, is so
-pub data EachCall (P : Device → Call → Type 0) (limit : ℕ) : Device → List Call → Type 0 where
-  none : {d : Device} → EachCall P limit d []
-  more : {d : Device} {call : Call} {calls : List Call} → P d call → EachCall P limit (leftBy limit d call) calls → EachCall P limit d (call ∷ calls)
+-- a call over a device that was handed back: it is not refused as 102, and on a memory of that length only for what it lends
+pub record HandedBack (memory limit : ℕ) (d : Device) (call : Call) : Type 0 where
+  pub not-102 : numberIn limit d call ≡ 102 → ⊥
+  pub lent : length (call .memory) ≡ memory → RefusedForLent limit d call
 
--- over a made device, each call on a memory of the length that it was made for is refused only for what it lends
+-- so is each call, one after another, from a sound state whose windows fit a memory of that length
+unfoldable pub CallsStaySound : Type 0
+CallsStaySound =
+    (limit memory : ℕ) (d : Device) (calls : List Call) → stateSound d ≡ true → windowsFit d memory ≡ true
+    → EachCall (HandedBack memory limit) limit d calls
+
+-- and from a made device, with the memory's length that it was made for
 unfoldable pub FreshStaysSound : Type 0
 FreshStaysSound =
     (limit memory : ℕ) (w0 w1 w2 w3 : Window) (calls : List Call) → makingNumber (freshOf memory w0 w1 w2 w3 .answer) ≡ 0
-    → EachCall (λ d call. length (call .memory) ≡ memory → RefusedForLent limit d call) limit (freshOf memory w0 w1 w2 w3 .device) calls
+    → EachCall (HandedBack memory limit) limit (freshOf memory w0 w1 w2 w3 .device) calls

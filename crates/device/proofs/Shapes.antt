@@ -1,9 +1,11 @@
--- A turn leaves four rings and 64 slots, and a fresh device has them.
+-- A turn leaves four rings and 64 slots, and a fresh device has them; an emit leaves numbers that fit.
 -- Assumes nothing.
 use mathlib.Core.Path.{refl, _∙_}
 use mathlib.Core.Bool.{Bool, true, false}
-use Prim.Native.Nat.{ℕ}
-use lib.ListN.{length-set}
+use mathlib.Core.List.{List, [], _∷_}
+use Prim.Native.Nat.{ℕ, zero, suc, _^_, _<_}
+use native.Mathlib.Omega.{arith}
+use lib.ListN.{getD, set, length-set}
 use Rattle.command.specs.declared.header.Command.{Command}
 use Rattle.command.specs.declared.work.Performed.{Performed}
 use Rattle.command.specs.Choice.{either}
@@ -16,8 +18,8 @@ use Rattle.device.specs.declared.ready.Picked.the-variants.{Ring, Nobody
 use Rattle.device.specs.declared.refusal.Refusal.the-variants.{Memory}
 use Rattle.device.specs.declared.fresh.Making.the-variants.{Made, Refused as Refuses}
 use Rattle.device.specs.declared.fresh.Fresh.{Fresh}
-use Rattle.device.specs.Slots.{emittedIn}
-use Rattle.device.specs.State.{Shaped, emptyWindow, withRing, withSlots, withMarker, freshDevice}
+use Rattle.device.specs.Slots.{emitted, emittedIn}
+use Rattle.device.specs.State.{Shaped, SlotsFit, slotOf, emptyWindow, withRing, withSlots, withMarker, freshDevice}
 use Rattle.device.specs.Fresh.{freshOf}
 use Rattle.device.specs.Refusal.{memoryFits}
 use Rattle.device.specs.Turn.{Call, emitTo, deviceAfter, finished, servedOf, pickedOf, judgedOf, unchanged, turnOf, verdictOn}
@@ -26,6 +28,20 @@ after-emit : (b : Bool) (d : Device) (n : ℕ) → Shaped d → Shaped (emitTo b
 unfolding emitTo either withSlots emittedIn
 after-emit true d n s = record { rings = s .rings; slots = length-set (d .slots) n _ ∙ s .slots }
 after-emit false d n s = s
+
+-- a number put in one place of a list leaves every place below a bound that the number is below
+put-below : (k : ℕ) (xs : List ℕ) (n v m : ℕ) → getD xs m 0 < k → v < k → getD (set xs n v) m 0 < k
+put-below k [] n v m h new = h
+put-below k (x ∷ xs) zero v zero h new = new
+put-below k (x ∷ xs) zero v (suc m) h new = h
+put-below k (x ∷ xs) (suc n) v zero h new = h
+put-below k (x ∷ xs) (suc n) v (suc m) h new = put-below k xs n v m h new
+
+-- so an emit leaves numbers that fit
+pub emit-fits : (b : Bool) (d : Device) (n : ℕ) → SlotsFit d → SlotsFit (emitTo b d n)
+unfolding emitTo either withSlots emittedIn slotOf SlotsFit
+emit-fits true d n fit m = put-below (2 ^ 32) (d .slots) n (emitted (getD (d .slots) n 0)) m (fit m) (omega arith)
+emit-fits false d n fit m = fit m
 
 pub after-shaped : (d : Device) (q : ℕ) (c : Command) (p : Performed) → Shaped d → Shaped (deviceAfter d q c p)
 unfolding deviceAfter withMarker withRing

@@ -13,6 +13,7 @@ use Rattle.device.specs.declared.turn.Answer.the-variants.{Served, Idle, Refuse
 use Rattle.device.specs.declared.turn.Report.{Report}
 use Rattle.device.specs.State.{Shaped}
 use Rattle.device.specs.Refusal.{refusalNumber}
+use Rattle.device.specs.Answer.{answerNumber}
 use Rattle.device.specs.Turn.{Call, turnOf}
 use Rattle.device.specs.Left.{bytesLeft}
 use Rattle.device.proofs.BytesLeft.{served-takes}
@@ -55,5 +56,5 @@ module _ (turns : ℕ) (d : Device) (call : Call) (s : Shaped d) where
   idle-ends e = rw e
 
   pub refused-ends : (why : Refusal) → turnOf stepLimit d call .turned .answer ≡ Refused why → allLines turns d call ≡ refusedLine (refusalNumber why)
-  unfolding allLines linesFrom linesOf
+  unfolding allLines linesFrom linesOf answerNumber
   refused-ends why e = rw e

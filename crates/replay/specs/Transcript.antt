@@ -13,8 +13,7 @@ use Rattle.device.specs.declared.turn.Answer.{Answer}
 use Rattle.device.specs.declared.turn.Answer.the-variants.{Served, Idle, Refused as RefusedTurn}
 use Rattle.device.specs.declared.turn.Report.{Report}
 use Rattle.device.specs.State.{Shaped}
-use Rattle.device.specs.Refusal.{refusalNumber}
-use Rattle.device.specs.Answer.{valuesOf, makingNumber}
+use Rattle.device.specs.Answer.{answerNumber, valuesOf, makingNumber}
 use Rattle.device.specs.Fresh.{freshOf}
 use Rattle.device.specs.Turn.{Call, callOf, After, turnOf}
 use Rattle.device.specs.Left.{bytesLeft}
@@ -36,7 +35,7 @@ servedLine turn report =
 unfoldable pub linesOf : ℕ → Answer → List ℕ → List ℕ
 linesOf turns (Served report) rest = servedLine (turns + 1) report ++ rest
 linesOf turns Idle rest = idleLine turns
-linesOf turns (RefusedTurn why) rest = refusedLine (refusalNumber why)
+linesOf turns (RefusedTurn why) rest = refusedLine (answerNumber (RefusedTurn why))
 
 -- the next call: the same rings and pack, and the memory and pipe that the turn leaves
 abbrev pub nextCall : Call → After → Call

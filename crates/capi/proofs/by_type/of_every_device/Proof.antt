@@ -1,7 +1,7 @@
 -- `capi::by_type::of_every_device` meets its contract. Assumes nothing.
 use Rattle.device.proofs.Verdicts.{each-of-four}
-use Rattle.capi.proofs.Forms.{formed}
-use Rattle.capi.proofs.Imaged.{imaged, slots-row}
+use Rattle.capi.proofs.Forms.{formed, slots-row}
+use Rattle.capi.proofs.Imaged.{imaged}
 use borrow.Author.Needs.{needs}
 use Rattle.capi.proofs.by_type.of_every_device.Statement.{statement}
 use Rattle.capi.proofs.by_type.of_every_device.Tie as tie
