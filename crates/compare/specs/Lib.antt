@@ -1,3 +1,4 @@
 pub mod Piece
 pub mod Lent
 pub mod Answer
+pub mod Tally
