@@ -1,4 +1,7 @@
 pub mod Piece
 pub mod Lent
-pub mod Answer
+pub mod Compared
+pub mod Fresh
+pub mod Turn
+pub mod Call
 pub mod Tally

@@ -1,5 +1,5 @@
 -- `compare::fresh::are_whole` meets its contract. Assumes nothing.
-use Rattle.compare.specs.Answer.{areWhole}
+use Rattle.compare.specs.Fresh.{areWhole}
 use borrow.Author.Needs.{needs}
 use Rattle.compare.proofs.fresh.are_whole.Statement.{statement}
 use Rattle.compare.proofs.fresh.are_whole.Tie as tie

@@ -1,5 +1,5 @@
 -- `compare::fresh::is_recorded` meets its contract. Assumes nothing.
-use Rattle.compare.specs.Answer.{freshRecorded}
+use Rattle.compare.specs.Fresh.{freshRecorded}
 use borrow.Author.Needs.{needs}
 use Rattle.compare.proofs.fresh.is_recorded.Statement.{statement}
 use Rattle.compare.proofs.fresh.is_recorded.Tie as tie

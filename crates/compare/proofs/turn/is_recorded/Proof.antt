@@ -1,5 +1,5 @@
 -- `compare::turn::is_recorded` meets its contract. Assumes nothing.
-use Rattle.compare.specs.Answer.{turnRecorded}
+use Rattle.compare.specs.Turn.{turnRecorded}
 use borrow.Author.Needs.{needs}
 use Rattle.compare.proofs.turn.is_recorded.Statement.{statement}
 use Rattle.compare.proofs.turn.is_recorded.Tie as tie

@@ -1,5 +1,5 @@
 -- `compare::turn::left_after` meets its contract. Assumes nothing.
-use Rattle.compare.specs.Answer.{leftAfter}
+use Rattle.compare.specs.Turn.{leftAfter}
 use Rattle.compare.specs.Piece.{pieceOn}
 use borrow.Author.Needs.{needs}
 use Rattle.compare.proofs.turn.left_after.Statement.{statement}
