@@ -19,6 +19,10 @@ unfolding firstBytes
 first-length zero bytes = refl
 first-length (suc n) bytes = rw (length-append, first-length n bytes) (add-one n)
 
+-- bytes laid over as much as a piece has are the piece's
+pub first-same : {n k : ℕ} {xs : List ℕ} (bytes : List ℕ) → n ≡ k → xs ≡ firstBytes n bytes → xs ≡ firstBytes k bytes
+first-same bytes same laid = rw (← same) laid
+
 -- one more byte is laid
 pub first-more : (n : ℕ) (bytes m : List ℕ) → n < length m
     → set (firstBytes n bytes ++ drop n m) n (getD bytes n 0) ≡ firstBytes (n + 1) bytes ++ drop (n + 1) m

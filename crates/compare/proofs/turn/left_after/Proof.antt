@@ -19,7 +19,7 @@ piece-after-requires-4 c κs = search needs
 
 returns : tie.Need-returns
 unfolding leftAfter pieceOn
-returns c = cc
+returns c = rw (c .piece-after4 .ensures, c .before .piece-after3 .ensures, c .before .before .piece-after2 .ensures, c .before .before .before .piece-after .ensures)
 
 pub left-after-spec : {M : Type 1} → statement M
 left-after-spec =

@@ -1,4 +1,6 @@
 -- `compare::turn::make_again` meets its contract. Assumes nothing.
+use mathlib.Core.Path.{sym}
+use Rattle.compare.proofs.Laid.{first-same}
 use borrow.Author.Needs.{needs}
 use Rattle.compare.proofs.turn.make_again.Statement.{statement}
 use Rattle.compare.proofs.turn.make_again.Tie as tie
@@ -22,9 +24,9 @@ compare-answer-requires : tie.Need-compare-answer-requires
 compare-answer-requires c κs =
     let lent = c .before .before .before .before .before .before .before .before .before .before .before .before .before .before .before .before .before .before .pre in
     record {
-      image = rw (lent .image) (c .before .before .before .before .before .before .before .before .before .before .before .before .lay .ensures);
-      memory = rw (← lent .memory) (c .before .before .before .before .before .before .before .before .before .lay2 .ensures);
-      pipe = rw (← lent .pipe) (c .before .before .before .before .before .lay3 .ensures);
+      image = first-same _ (sym (lent .image)) (c .before .before .before .before .before .before .before .before .before .before .before .before .lay .ensures);
+      memory = first-same _ (lent .memory) (c .before .before .before .before .before .before .before .before .before .lay2 .ensures);
+      pipe = first-same _ (lent .pipe) (c .before .before .before .before .before .lay3 .ensures);
       room = lent .room;
     }
 

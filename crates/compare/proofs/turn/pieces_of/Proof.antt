@@ -23,7 +23,7 @@ left-after-requires c κs = search needs
 
 returns : tie.Need-returns
 unfolding turnPieces pieceOn lentAfter
-returns c = cc
+returns c = rw (c .left-after .ensures, c .before .piece-after2 .ensures, c .before .before .before .lent-after .ensures, c .before .before .before .before .piece-after .ensures, c .before .before .before .before .before .piece-at .ensures)
 
 pub pieces-of-spec : {M : Type 1} → statement M
 pieces-of-spec =
