@@ -1,7 +1,7 @@
 -- Laws of bytes that are laid into a room.
 -- Assumes nothing.
 use mathlib.Core.Path.{_≡_, refl, sym, _∙_}
-use mathlib.Core.List.{List, [], _∷_, _++_, append-assoc}
+use mathlib.Core.List.{List, [], _++_, append-assoc}
 use Prim.Native.Nat.{ℕ, zero, suc, _+_, _-_, _≤_, _<_}
 use native.Mathlib.Numerals.{add-one}
 use native.Mathlib.Omega.{arith}
@@ -44,7 +44,7 @@ laid-part start n bytes m part fits laid =
     rw same (loan-put-back start (start + n) m (firstBytes n bytes) (first-length n bytes ∙ omega arith))
 
 -- bytes put in after those at the front
-pub put-next : (n : ℕ) (xs ys m : List ℕ) → length xs ≡ n → putBack n ys (putBack 0 xs m) ≡ putBack 0 (xs ++ ys) m
+put-next : (n : ℕ) (xs ys m : List ℕ) → length xs ≡ n → putBack n ys (putBack 0 xs m) ≡ putBack 0 (xs ++ ys) m
 unfolding putBack
 put-next n xs ys m long =
     let rest = drop (0 + length xs) m in
@@ -60,6 +60,7 @@ read-next : (start end : ℕ) (whole xs ys zs : List ℕ) → whole ≡ xs ++ ys
 read-next start end whole xs ys zs same low high =
     rw (same, append-assoc, drop-at xs (ys ++ zs) start low) (take-at ys zs (end - start) (omega (arith, length-append xs ys)))
 
+-- five pieces put in one after another
 pub laid-lent : (body : List ℕ) (lent : Lent) (ends : Ends) (m m₀ m₁ m₂ m₃ m₄ : List ℕ) → ends ≡ endsOf lent
     → m₀ ≡ putBack 0 (pieceBytes body (lent .ring0)) m
     → m₁ ≡ putBack (ends .ring0) (pieceBytes body (lent .ring1)) m₀
@@ -69,6 +70,11 @@ pub laid-lent : (body : List ℕ) (lent : Lent) (ends : Ends) (m m₀ m₁ m₂ 
     → m₄ ≡ putBack 0 (lentBytes body lent) m
 unfolding endsOf lentBytes
 laid-lent body lent ends m m₀ m₁ m₂ m₃ m₄ same e₀ e₁ e₂ e₃ e₄ =
+    let a = pieceBytes body (lent .ring0) in
+    let b = pieceBytes body (lent .ring1) in
+    let c = pieceBytes body (lent .ring2) in
+    let d = pieceBytes body (lent .ring3) in
+    let e = pieceBytes body (lent .pack) in
     rw (
       e₄,
       e₃,
@@ -76,10 +82,10 @@ laid-lent body lent ends m m₀ m₁ m₂ m₃ m₄ same e₀ e₁ e₂ e₃ e�
       e₁,
       e₀,
       same,
-      put-next (endsOf lent .ring0) (pieceBytes body (lent .ring0)) (pieceBytes body (lent .ring1)) m (first-length _ _),
-      put-next (endsOf lent .ring1) (pieceBytes body (lent .ring0) ++ pieceBytes body (lent .ring1)) (pieceBytes body (lent .ring2)) m (simp (length-append, first-length)),
-      put-next (endsOf lent .ring2) (pieceBytes body (lent .ring0) ++ pieceBytes body (lent .ring1) ++ pieceBytes body (lent .ring2)) (pieceBytes body (lent .ring3)) m (simp (length-append, first-length)),
-      put-next (endsOf lent .ring3) (pieceBytes body (lent .ring0) ++ pieceBytes body (lent .ring1) ++ pieceBytes body (lent .ring2) ++ pieceBytes body (lent .ring3)) (pieceBytes body (lent .pack)) m (simp (length-append, first-length)),
+      put-next (endsOf lent .ring0) a b m (first-length _ _),
+      put-next (endsOf lent .ring1) (a ++ b) c m (simp (length-append, first-length)),
+      put-next (endsOf lent .ring2) (a ++ b ++ c) d m (simp (length-append, first-length)),
+      put-next (endsOf lent .ring3) (a ++ b ++ c ++ d) e m (simp (length-append, first-length)),
     )
 
 -- the room has each piece in its place

@@ -9,13 +9,12 @@ use lib.ListN.{replicate}
 use borrow.Author.Tests.{eqb-true, leb-true, not-false}
 use Rattle.command.proofs.Choices.{both-left, both-right}
 use Rattle.device.specs.Turn.{callOf}
-use Rattle.capi.specs.Calls.{Called, Leaves, turnCall}
+use Rattle.capi.specs.Calls.{Leaves, turnCall}
 use Rattle.compare.specs.declared.tally.Seen.the-variants.{Turn}
 use Rattle.compare.specs.declared.lent.Ends.{Ends}
-use Rattle.compare.specs.declared.turn.Left.{Left}
 use Rattle.compare.specs.declared.turn.Pieces.{Pieces}
 use Rattle.compare.specs.Lent.{endsOf, between}
-use Rattle.compare.specs.Turn.{hasRoom, callIn, turnMade, turnRecorded, seenOf, Laid}
+use Rattle.compare.specs.Turn.{hasRoom, callIn, turnMade, turnRecorded, seenOf, Laid, Makes}
 
 -- what the test for room says
 pub record Roomy (pieces : Pieces) (m o : ℕ) : Type 0 where
@@ -42,7 +41,7 @@ roomy pieces m o r same passed =
     }
 
 -- the call on what was laid is the recorded call
-pub made : (body : List ℕ) (pieces : Pieces) (i m o p : List ℕ) → Laid body pieces i m o p
+made : (body : List ℕ) (pieces : Pieces) (i m o p : List ℕ) → Laid body pieces i m o p
     → (ends : Ends) → ends ≡ endsOf (pieces .lent) → (r0 r1 r2 r3 pack : List ℕ)
     → r0 ≡ between o 0 (ends .ring0)
     → r1 ≡ between o (ends .ring0) (ends .ring1)
@@ -69,9 +68,20 @@ made body pieces i m o p laid ends same r0 r1 r2 r3 pack e0 e1 e2 e3 e4 =
       laid .room .pack,
     )
 
--- what was judged is what the call left and answered
-pub judged : (body : List ℕ) (left : Left) (i m p t : List ℕ) (status : ℕ) (c : Called) (r : Bool) → Leaves i m p t status c
-    → r ≡ turnRecorded body left i m p t status → Turn status r ≡ seenOf body left c
+-- and what is seen and left is that of the recorded call
+pub makes : {body : List ℕ} {pieces : Pieces} {i m o p : List ℕ} → Laid body pieces i m o p
+    → (ends : Ends) → ends ≡ endsOf (pieces .lent) → (r0 r1 r2 r3 pack : List ℕ)
+    → r0 ≡ between o 0 (ends .ring0)
+    → r1 ≡ between o (ends .ring0) (ends .ring1)
+    → r2 ≡ between o (ends .ring1) (ends .ring2)
+    → r3 ≡ between o (ends .ring2) (ends .ring3)
+    → pack ≡ between o (ends .ring3) (ends .pack)
+    → {i′ m′ p′ t′ : List ℕ} {status : ℕ} → Leaves i′ m′ p′ t′ status (turnCall i (replicate 24 255) (callOf m r0 r1 r2 r3 pack p))
+    → (r : Bool) → r ≡ turnRecorded body (pieces .left) i′ m′ p′ t′ status → Makes (Turn status r) m′ body pieces
 unfolding seenOf
-judged body left i m p t status c r leaves same =
-    rw (same, leaves .image, leaves .memory, leaves .pipe, leaves .report, leaves .answer)
+makes laid ends same r0 r1 r2 r3 pack e0 e1 e2 e3 e4 left r judged =
+    let recorded = made _ _ _ _ _ _ laid ends same r0 r1 r2 r3 pack e0 e1 e2 e3 e4 in
+    record {
+      answer = rw (← recorded, judged, left .image, left .memory, left .pipe, left .report, left .answer);
+      memory = rw (← recorded) (left .memory);
+    }

@@ -4,7 +4,7 @@ use mathlib.Core.List.{List}
 use lib.Dec.{eqb}
 use Rattle.memory.specs.Place.{wordAt}
 use Rattle.command.specs.Choice.{either}
-use Rattle.compare.specs.declared.tally.Seen.the-variants.{Fresh, Turn, Damaged}
+use Rattle.compare.specs.declared.tally.Seen.the-variants.{Damaged}
 use Rattle.compare.specs.Compared.{Compared, untouched}
 use Rattle.compare.specs.Fresh.{freshSeen}
 use Rattle.compare.specs.Turn.{turnCompared}

@@ -8,7 +8,7 @@ use Rattle.command.specs.Choice.{either}
 use Rattle.capi.specs.Image.{bytesOf}
 use Rattle.capi.specs.Calls.{Freshened, freshCall}
 use Rattle.compare.specs.declared.tally.Seen.{Seen}
-use Rattle.compare.specs.declared.tally.Seen.the-variants.{Fresh, Turn, Damaged}
+use Rattle.compare.specs.declared.tally.Seen.the-variants.{Fresh, Damaged}
 use Rattle.compare.specs.declared.fresh.Pieces.{Pieces}
 use Rattle.compare.specs.declared.piece.Piece.{Piece}
 use Rattle.compare.specs.Piece.{pieceAt, pieceOn, pieceBytes, isPiece, isLast}

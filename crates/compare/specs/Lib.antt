@@ -5,3 +5,4 @@ pub mod Fresh
 pub mod Turn
 pub mod Call
 pub mod Tally
+pub mod OneAnswer

@@ -11,7 +11,7 @@ use Rattle.command.specs.Choice.{either}
 use Rattle.device.specs.Turn.{Call, callOf}
 use Rattle.capi.specs.Calls.{Called, turnCall}
 use Rattle.compare.specs.declared.tally.Seen.{Seen}
-use Rattle.compare.specs.declared.tally.Seen.the-variants.{Fresh, Turn, Damaged}
+use Rattle.compare.specs.declared.tally.Seen.the-variants.{Turn, Damaged}
 use Rattle.compare.specs.declared.piece.Piece.{Piece}
 use Rattle.compare.specs.declared.turn.Left.{Left}
 use Rattle.compare.specs.declared.turn.Pieces.{Pieces}

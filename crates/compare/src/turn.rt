@@ -106,7 +106,7 @@ fn is_recorded(
     )
 }
 
-// Makes the call on copies of what was recorded before it, and compares what it leaves.
+// Makes the call on what is lent, and compares what it leaves.
 fn compare_answer(
     body: &[u8],
     pieces: Pieces,
@@ -131,10 +131,11 @@ fn compare_answer(
         pipe,
         &mut report,
     );
-    let is_same = is_recorded(body, pieces.left, image, memory, pipe, &report, status);
-    Seen::Turn(status, is_same)
+    let same = is_recorded(body, pieces.left, image, memory, pipe, &report, status);
+    Seen::Turn(status, same)
 }
 
+// Lays the recorded bytes into what is lent, and makes the call again.
 fn make_again(body: &[u8], pieces: Pieces, memory: &mut [u8], room: &[u8], pipe: &mut [u8]) -> Seen
     requires { ⌜ Lends (now body) pieces (now memory) (now room) (now pipe) ⌝ }
     ensures { λ r. ⌜ Makes r (now (memory .exit)) (now (body .entry)) pieces ⌝ }

@@ -1,6 +1,6 @@
 -- `compare::turn::compare_answer` meets its contract. Assumes nothing.
 use native.Mathlib.Omega.{arith}
-use Rattle.compare.proofs.Turns.{made, judged}
+use Rattle.compare.proofs.Turns.{makes}
 use borrow.Author.Needs.{needs}
 use Rattle.compare.proofs.turn.compare_answer.Statement.{statement}
 use Rattle.compare.proofs.turn.compare_answer.Tie as tie
@@ -46,11 +46,9 @@ same-length-3 c = search needs
 
 returns : tie.Need-returns
 returns c =
-    let same = made _ _ _ _ _ _ (c .before .before .before .before .before .before .before .before .before .before .before .before .before .before .before .before .before .before .before .before .before .before .before .before .before .before .before .before .pre) _ (c .before .before .before .before .before .before .before .before .before .before .before .before .before .before .before .before .before .before .before .before .before .before .ends-of .ensures .0) _ _ _ _ _ (c .before .before .before .before .before .before .before .before .before .before .before .before .before .before .before .before .before .before .before .part-of .ensures) (c .before .before .before .before .before .before .before .before .before .before .before .before .before .before .before .before .before .before .part-of2 .ensures) (c .before .before .before .before .before .before .before .before .before .before .before .before .before .before .before .before .before .part-of3 .ensures) (c .before .before .before .before .before .before .before .before .before .before .before .before .before .before .before .before .part-of4 .ensures) (c .before .before .before .before .before .before .before .before .before .before .before .before .before .before .before .part-of5 .ensures) in
-    record {
-      answer = rw (← same) (judged _ _ _ _ _ _ _ _ _ (c .before .before .before .before .before .before .before .before .before .before .before .before .turn-call .ensures) (c .is-recorded .ensures));
-      memory = rw (← same) (c .before .before .before .before .before .before .before .before .before .before .before .before .turn-call .ensures .memory);
-    }
+    makes (c .before .before .before .before .before .before .before .before .before .before .before .before .before .before .before .before .before .before .before .before .before .before .before .before .before .before .before .before .pre) _ (c .before .before .before .before .before .before .before .before .before .before .before .before .before .before .before .before .before .before .before .before .before .before .ends-of .ensures .0) _ _ _ _ _
+    (c .before .before .before .before .before .before .before .before .before .before .before .before .before .before .before .before .before .before .before .part-of .ensures) (c .before .before .before .before .before .before .before .before .before .before .before .before .before .before .before .before .before .before .part-of2 .ensures) (c .before .before .before .before .before .before .before .before .before .before .before .before .before .before .before .before .before .part-of3 .ensures) (c .before .before .before .before .before .before .before .before .before .before .before .before .before .before .before .before .part-of4 .ensures) (c .before .before .before .before .before .before .before .before .before .before .before .before .before .before .before .part-of5 .ensures)
+    (c .before .before .before .before .before .before .before .before .before .before .before .before .turn-call .ensures) _ (c .is-recorded .ensures)
 
 pub compare-answer-spec : {M : Type 1} → statement M
 compare-answer-spec =
