@@ -1,1 +1,4 @@
 pub mod Laid
+pub mod Makings
+pub mod Turns
+pub mod OneAnswer

@@ -1,3 +1,8 @@
 pub mod Piece
 pub mod Lent
-pub mod Answer
+pub mod Compared
+pub mod Fresh
+pub mod Turn
+pub mod Call
+pub mod Tally
+pub mod OneAnswer

@@ -1,7 +1,7 @@
 -- The pieces of a record's body, and what it is for bytes to be those of one.
 use Prim.Native.Nat.{ℕ, zero, suc, _+_}
 use mathlib.Core.Bool.{Bool, _&&_}
-use mathlib.Core.List.{List}
+use mathlib.Core.List.{List, [], _∷_, _++_}
 use lib.Dec.{eqb, ltb}
 use lib.ListN.{length, getD}
 use Rattle.command.specs.Choice.{either}
@@ -25,6 +25,15 @@ pieceAfter body piece = pieceAt body (piece .stored .end)
 unfoldable pub pieceOn : List ℕ → Piece → ℕ → Piece
 pieceOn body piece zero = piece
 pieceOn body piece (suc n) = pieceAfter body (pieceOn body piece n)
+
+-- the first n of some bytes; a byte that is not there is 0
+unfoldable pub firstBytes : ℕ → List ℕ → List ℕ
+firstBytes zero bytes = []
+firstBytes (suc n) bytes = firstBytes n bytes ++ (getD bytes n 0 ∷ [])
+
+-- a piece's bytes: the stored ones, and 0 past these
+abbrev pub pieceBytes : List ℕ → Piece → List ℕ
+pieceBytes body piece = firstBytes (piece .length) (bytesOf body (piece .stored))
 
 -- as many as the piece has, each the stored one at its place, or 0 where none is stored
 unfoldable pub sameAs : List ℕ → ℕ → List ℕ → Bool

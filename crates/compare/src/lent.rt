@@ -1,8 +1,10 @@
 // The rings and the pack of a recorded turn, laid one after another.
-ghost use Prim.Native.Nat.{_≤_};
+ghost use Prim.Native.Nat.{_+_, _≤_};
 ghost use lib.ListN.{length};
 ghost use mathlib.Core.Path.{_≡_};
-ghost use Rattle.compare.specs.Lent.{InOrder, lentAfter, endsOf};
+ghost use Rattle.memory.specs.Window.{putBack};
+ghost use Rattle.compare.specs.Piece.{pieceBytes};
+ghost use Rattle.compare.specs.Lent.{InOrder, lentAfter, endsOf, lentBytes, between};
 use crate::piece::Piece;
 use crate::piece::lay;
 use crate::piece::piece_after;
@@ -58,25 +60,31 @@ pub fn ends_of(lent: Lent) -> Ends
     }
 }
 
-// A piece laid into the bytes from `start` up to `end`.
-pub fn lay_part(room: &mut [u8], start: usize, end: usize, body: &[u8], piece: Piece)
-    requires { ⌜ (start ≤ end) × (end ≤ length (now room)) ⌝ }
+// A piece laid into the bytes from `start` on.
+fn lay_part(room: &mut [u8], start: usize, body: &[u8], piece: Piece)
+    requires { ⌜ start + piece .length ≤ length (now room) ⌝ }
+    ensures { λ _. ⌜ now (room .exit) ≡ putBack start (pieceBytes (now (body .entry)) piece) (now (room .entry)) ⌝ }
 {
+    let end = start + piece.length as usize;
     lay(&mut room[start..end], body, piece);
 }
 
-pub fn lay_lent(room: &mut [u8], body: &[u8], lent: Lent, ends: Ends)
-    requires { ⌜ InOrder ends × (ends .pack ≤ length (now room)) ⌝ }
+// The five pieces laid one after another, to the front of the room.
+pub fn lay_lent(room: &mut [u8], body: &[u8], lent: Lent)
+    requires { ⌜ endsOf lent .pack ≤ length (now room) ⌝ }
+    ensures { λ _. ⌜ now (room .exit) ≡ putBack 0 (lentBytes (now (body .entry)) lent) (now (room .entry)) ⌝ }
 {
-    lay_part(room, 0, ends.ring0, body, lent.ring0);
-    lay_part(room, ends.ring0, ends.ring1, body, lent.ring1);
-    lay_part(room, ends.ring1, ends.ring2, body, lent.ring2);
-    lay_part(room, ends.ring2, ends.ring3, body, lent.ring3);
-    lay_part(room, ends.ring3, ends.pack, body, lent.pack);
+    let ends = ends_of(lent);
+    lay_part(room, 0, body, lent.ring0);
+    lay_part(room, ends.ring0, body, lent.ring1);
+    lay_part(room, ends.ring1, body, lent.ring2);
+    lay_part(room, ends.ring2, body, lent.ring3);
+    lay_part(room, ends.ring3, body, lent.pack);
 }
 
 pub fn part_of(room: &[u8], start: usize, end: usize) -> &[u8]
     requires { ⌜ (start ≤ end) × (end ≤ length (now room)) ⌝ }
+    ensures { λ r. ⌜ now r ≡ between (now (room .entry)) start end ⌝ }
 {
     &room[start..end]
 }

@@ -4,8 +4,7 @@ ghost use lib.Dec.{eqb};
 ghost use lib.ListN.{length, getD};
 ghost use Rattle.job.specs.Kernels.{allBelow};
 ghost use Rattle.job.specs.Parts.{bytesOf};
-ghost use Rattle.memory.specs.Transfer.{transferred};
-ghost use Rattle.compare.specs.Piece.{pieceAt, pieceAfter, isPiece, isLast};
+ghost use Rattle.compare.specs.Piece.{pieceAt, pieceAfter, firstBytes, isPiece, isLast};
 use job::parts::Part;
 use job::parts::bytes_of;
 use memory::peek::peek_byte;
@@ -50,7 +49,7 @@ pub fn piece_after(body: &[u8], piece: Piece) -> Piece
 }
 
 fn lay_bytes(target: &mut [u8], stored: &[u8])
-    ensures { λ _. ⌜ now (target .exit) ≡ transferred (now (stored .entry)) 0 0 (length (now (target .entry))) (now (target .entry)) ⌝ }
+    ensures { λ _. ⌜ now (target .exit) ≡ firstBytes (length (now (target .entry))) (now (stored .entry)) ⌝ }
 {
     let n = target.len();
     for i in 0..n {
@@ -58,9 +57,9 @@ fn lay_bytes(target: &mut [u8], stored: &[u8])
     }
 }
 
-// The piece laid into the target, as far as that goes.
+// The piece laid over the whole target.
 pub fn lay(target: &mut [u8], body: &[u8], piece: Piece)
-    ensures { λ _. ⌜ now (target .exit) ≡ transferred (bytesOf (now (body .entry)) (piece .stored)) 0 0 (length (now (target .entry))) (now (target .entry)) ⌝ }
+    ensures { λ _. ⌜ now (target .exit) ≡ firstBytes (length (now (target .entry))) (bytesOf (now (body .entry)) (piece .stored)) ⌝ }
 {
     lay_bytes(target, bytes_of(body, piece.stored));
 }

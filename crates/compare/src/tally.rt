@@ -1,4 +1,6 @@
 // How many calls of each kind were made again, and how many differ.
+ghost use mathlib.Core.Path.{_≡_};
+ghost use Rattle.compare.specs.Tally.{tallyOf, withTurn, held, counted};
 use libc::STDOUT_FILENO;
 use words::arithmetic::add;
 
@@ -18,7 +20,9 @@ pub struct Tally {
 }
 
 impl Tally {
-    pub fn none() -> Self {
+    pub fn none() -> Self
+        ensures { λ r. ⌜ r ≡ tallyOf 0 0 0 0 0 ⌝ }
+    {
         Tally {
             fresh: 0,
             served: 0,
@@ -28,14 +32,19 @@ impl Tally {
         }
     }
 
-    fn held(mut self, is_same: bool) -> Self {
-        if !is_same {
-            self.differ = add(self.differ, 1);
+    fn held(mut self, is_same: bool) -> Self
+        ensures { λ r. ⌜ r ≡ held self «is_same» ⌝ }
+    {
+        if is_same {
+            return self;
         }
+        self.differ = add(self.differ, 1);
         self
     }
 
-    fn turned(mut self, status: u32) -> Self {
+    fn turned(mut self, status: u32) -> Self
+        ensures { λ r. ⌜ r ≡ withTurn self status ⌝ }
+    {
         if status == 0 {
             self.served = add(self.served, 1);
         } else if status == 1 {
@@ -46,7 +55,9 @@ impl Tally {
         self
     }
 
-    pub fn with(mut self, seen: Seen) -> Self {
+    pub fn with(mut self, seen: Seen) -> Self
+        ensures { λ r. ⌜ r ≡ counted self seen ⌝ }
+    {
         match seen {
             Seen::Fresh(is_same) => {
                 self.fresh = add(self.fresh, 1);

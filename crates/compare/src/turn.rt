@@ -1,13 +1,10 @@
 // A recorded turn.
-ghost use Prim.Native.Nat.{_≤_};
-ghost use lib.ListN.{length};
 ghost use mathlib.Core.Path.{_≡_};
-ghost use Rattle.compare.specs.Lent.{InOrder};
-ghost use Rattle.compare.specs.Answer.{leftAfter, turnRecorded};
-use crate::lent::Ends;
+ghost use Rattle.compare.specs.Compared.{Compares};
+ghost use Rattle.compare.specs.Turn.{leftAfter, turnPieces, hasRoom, turnRecorded, turnCompared, Lends, Laid, Makes};
+use crate::lent::Lent;
 use crate::lent::ends_of;
 use crate::lent::lay_lent;
-use crate::lent::lay_part;
 use crate::lent::lent_after;
 use crate::lent::part_of;
 use crate::piece::Piece;
@@ -44,6 +41,44 @@ fn left_after(body: &[u8], piece: Piece) -> Left
     }
 }
 
+struct Pieces {
+    image: Piece,
+    memory: Piece,
+    lent: Lent,
+    pipe: Piece,
+    left: Left,
+}
+
+fn pieces_of(body: &[u8]) -> Pieces
+    ensures { λ r. ⌜ r ≡ turnPieces (now (body .entry)) ⌝ }
+{
+    let image = piece_at(body, 4);
+    let memory = piece_after(body, image);
+    let lent = lent_after(body, memory);
+    let pack = lent.pack;
+    let pipe = piece_after(body, pack);
+    let left = left_after(body, pipe);
+    Pieces {
+        image,
+        memory,
+        lent,
+        pipe,
+        left,
+    }
+}
+
+// Whether the image is a device's, and there is room for the other lent pieces.
+fn has_room(pieces: Pieces, memory: usize, room: usize) -> bool
+    ensures { λ r. ⌜ r ≡ hasRoom pieces memory room ⌝ }
+{
+    let ends = ends_of(pieces.lent);
+    let memory_length = pieces.memory.length as usize;
+    both(
+        both(pieces.image.length == 372, pieces.pipe.length <= 2048),
+        both(memory_length <= memory, ends.pack <= room),
+    )
+}
+
 // Whether a turn left and returned what is recorded.
 fn is_recorded(
     body: &[u8],
@@ -71,18 +106,19 @@ fn is_recorded(
     )
 }
 
-// Makes the call on copies of what was recorded before it, and compares what it leaves.
+// Makes the call on what is lent, and compares what it leaves.
 fn compare_answer(
     body: &[u8],
+    pieces: Pieces,
     image: &mut [u8],
     memory: &mut [u8],
     room: &[u8],
-    ends: Ends,
     pipe: &mut [u8],
-    left: Left,
 ) -> Seen
-    requires { ⌜ InOrder ends × (ends .pack ≤ length (now room)) ⌝ }
+    requires { ⌜ Laid (now body) pieces (now image) (now memory) (now room) (now pipe) ⌝ }
+    ensures { λ r. ⌜ Makes r (now (memory .exit)) (now (body .entry)) pieces ⌝ }
 {
+    let ends = ends_of(pieces.lent);
     let mut report = [255u8; 24];
     let status = turn_call(
         image,
@@ -95,47 +131,38 @@ fn compare_answer(
         pipe,
         &mut report,
     );
-    Seen::Turn(
-        status,
-        is_recorded(body, left, image, memory, pipe, &report, status),
-    )
+    let same = is_recorded(body, pieces.left, image, memory, pipe, &report, status);
+    Seen::Turn(status, same)
 }
 
-pub fn compare(body: &[u8], memory: &mut [u8], room: &mut [u8]) -> Seen {
-    let image = piece_at(body, 4);
-    let before = piece_after(body, image);
-    let lent = lent_after(body, before);
-    let pack = lent.pack;
-    let pipe = piece_after(body, pack);
-    let left = left_after(body, pipe);
-    let ends = ends_of(lent);
-    let memory_length = before.length as usize;
-    let pipe_length = pipe.length as usize;
-    if image.length != 372 {
+// Lays the recorded bytes into what is lent, and makes the call again.
+fn make_again(body: &[u8], pieces: Pieces, memory: &mut [u8], room: &[u8], pipe: &mut [u8]) -> Seen
+    requires { ⌜ Lends (now body) pieces (now memory) (now room) (now pipe) ⌝ }
+    ensures { λ r. ⌜ Makes r (now (memory .exit)) (now (body .entry)) pieces ⌝ }
+{
+    let mut image = [0u8; 372];
+    lay(&mut image, body, pieces.image);
+    lay(memory, body, pieces.memory);
+    lay(pipe, body, pieces.pipe);
+    compare_answer(body, pieces, &mut image, memory, room, pipe)
+}
+
+pub fn compare(body: &[u8], memory: &mut [u8], room: &mut [u8]) -> Seen
+    ensures { λ r. ⌜ Compares r (now (memory .exit)) (now (room .exit)) (turnCompared (now (body .entry)) (now (memory .entry)) (now (room .entry))) ⌝ }
+{
+    let pieces = pieces_of(body);
+    if !has_room(pieces, memory.len(), room.len()) {
         return Seen::Damaged;
     }
-    if memory.len() < memory_length {
-        return Seen::Damaged;
-    }
-    if room.len() < ends.pack {
-        return Seen::Damaged;
-    }
-    if 2048 < pipe_length {
-        return Seen::Damaged;
-    }
-    let mut image_bytes = [0u8; 372];
-    let mut pipe_bytes = [0u8; 2048];
-    lay(&mut image_bytes, body, image);
-    lay_part(memory, 0, memory_length, body, before);
-    lay_part(&mut pipe_bytes, 0, pipe_length, body, pipe);
-    lay_lent(room, body, lent, ends);
-    compare_answer(
+    lay_lent(room, body, pieces.lent);
+    let mut pipe = [0u8; 2048];
+    let memory_end = pieces.memory.length as usize;
+    let pipe_end = pieces.pipe.length as usize;
+    make_again(
         body,
-        &mut image_bytes,
-        &mut memory[..memory_length],
+        pieces,
+        &mut memory[0..memory_end],
         room,
-        ends,
-        &mut pipe_bytes[..pipe_length],
-        left,
+        &mut pipe[0..pipe_end],
     )
 }

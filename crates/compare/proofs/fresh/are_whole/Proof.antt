@@ -1,5 +1,5 @@
 -- `compare::fresh::are_whole` meets its contract. Assumes nothing.
-use Rattle.compare.specs.Answer.{areWhole}
+use Rattle.compare.specs.Fresh.{areWhole}
 use borrow.Author.Needs.{needs}
 use Rattle.compare.proofs.fresh.are_whole.Statement.{statement}
 use Rattle.compare.proofs.fresh.are_whole.Tie as tie
@@ -12,7 +12,7 @@ both-requires-2 c κs = search needs
 
 returns : tie.Need-returns
 unfolding areWhole
-returns c = cc
+returns c = rw (c .both2 .ensures, c .before .both .ensures)
 
 pub are-whole-spec : {M : Type 1} → statement M
 are-whole-spec = tie.close (tie.spec both-requires both-requires-2 returns)

@@ -1,5 +1,5 @@
 -- `compare::fresh::is_recorded` meets its contract. Assumes nothing.
-use Rattle.compare.specs.Answer.{freshRecorded}
+use Rattle.compare.specs.Fresh.{freshRecorded}
 use borrow.Author.Needs.{needs}
 use Rattle.compare.proofs.fresh.is_recorded.Statement.{statement}
 use Rattle.compare.proofs.fresh.is_recorded.Tie as tie
@@ -21,7 +21,7 @@ both-requires-2 c κs = search needs
 
 returns : tie.Need-returns
 unfolding freshRecorded
-returns c = cc
+returns c = rw (c .both2 .ensures, c .before .both .ensures, c .before .before .before .before .is-same .ensures, c .before .before .before .is-same2 .ensures, c .before .before .is-last .ensures)
 
 pub is-recorded-spec : {M : Type 1} → statement M
 is-recorded-spec =

@@ -22,7 +22,7 @@ piece-after-requires-5 c κs = search needs
 
 returns : tie.Need-returns
 unfolding lentAfter pieceOn
-returns c = cc
+returns c = rw (c .piece-after5 .ensures, c .before .piece-after4 .ensures, c .before .before .piece-after3 .ensures, c .before .before .before .piece-after2 .ensures, c .before .before .before .before .piece-after .ensures)
 
 pub lent-after-spec : {M : Type 1} → statement M
 lent-after-spec =

@@ -9,7 +9,7 @@ piece-at-requires c κs = search needs
 
 returns : tie.Need-returns
 unfolding pieceAfter
-returns c = cc
+returns c = c .piece-at .ensures
 
 pub piece-after-spec : {M : Type 1} → statement M
 piece-after-spec = tie.close (tie.spec piece-at-requires returns)

@@ -1,83 +1,63 @@
 -- `compare::turn::compare` meets its contract. Assumes nothing.
-use mathlib.Core.Path.{sym}
-use lib.Seq.{length-take-le}
+use mathlib.Core.Path.{refl}
+use native.Mathlib.Omega.{arith}
+use borrow.Author.Tests.{not-true, not-false}
+use denote.Ref.{now}
+use Rattle.command.specs.Choice.{either}
+use Rattle.memory.proofs.Window.{loan-kept}
+use Rattle.compare.specs.Turn.{turnCompared, turnJudged}
+use Rattle.compare.proofs.Laid.{front-length, holds}
+use Rattle.compare.proofs.Turns.{roomy}
 use borrow.Author.Needs.{needs}
 use Rattle.compare.proofs.turn.compare.Statement.{statement}
 use Rattle.compare.proofs.turn.compare.Tie as tie
 
-piece-at-requires : tie.Need-piece-at-requires
-piece-at-requires c κs = search needs
+pieces-of-requires : tie.Need-pieces-of-requires
+pieces-of-requires c κs = search needs
 
-piece-after-requires : tie.Need-piece-after-requires
-piece-after-requires c κs = search needs
-
-lent-after-requires : tie.Need-lent-after-requires
-lent-after-requires c κs = search needs
-
-piece-after-requires-2 : tie.Need-piece-after-requires-2
-piece-after-requires-2 c κs = search needs
-
-left-after-requires : tie.Need-left-after-requires
-left-after-requires c κs = search needs
-
-ends-of-requires : tie.Need-ends-of-requires
-ends-of-requires c κs = search needs
-
-cast-memory-length : tie.Need-cast-memory-length
-cast-memory-length c = search needs
-
-cast-pipe-length : tie.Need-cast-pipe-length
-cast-pipe-length c = search needs
+has-room-requires : tie.Need-has-room-requires
+has-room-requires c κs = search needs
 
 returns : tie.Need-returns
-returns c = search needs
-
-returns-2 : tie.Need-returns-2
-returns-2 c = search needs
-
-returns-3 : tie.Need-returns-3
-returns-3 c = search needs
-
-returns-4 : tie.Need-returns-4
-returns-4 c = search needs
-
-slice-aggregate-lay : tie.Need-slice-aggregate-lay
-slice-aggregate-lay c = search needs
-
-lay-requires : tie.Need-lay-requires
-lay-requires c κs = search needs
-
-lay-part-requires : tie.Need-lay-part-requires
-lay-part-requires c κs = search needs
-
-slice-aggregate-lay-part : tie.Need-slice-aggregate-lay-part
-slice-aggregate-lay-part c = search needs
-
-lay-part-requires-2 : tie.Need-lay-part-requires-2
-lay-part-requires-2 c κs = search needs
+unfolding turnCompared either
+returns c = rw (← c .before .before .pieces-of .ensures, ← c .before .has-room .ensures, not-true (c .before .has-room .result) (c .if1 .taken)) (record { answer = refl; memory = refl; room = refl })
 
 lay-lent-requires : tie.Need-lay-lent-requires
-lay-lent-requires c κs = search needs
+lay-lent-requires c κs = roomy _ _ _ _ (c .before .before .has-room .ensures) (c .before .if1 .left) .lent
 
-slice-aggregate-compare-answer : tie.Need-slice-aggregate-compare-answer
-slice-aggregate-compare-answer c = search needs
+cast-memory-end : tie.Need-cast-memory-end
+cast-memory-end c = search needs
 
-slice-relend-prefix-compare-answer : tie.Need-slice-relend-prefix-compare-answer
-slice-relend-prefix-compare-answer c = search needs
+cast-pipe-end : tie.Need-cast-pipe-end
+cast-pipe-end c = search needs
 
-slice-aggregate-compare-answer-2 : tie.Need-slice-aggregate-compare-answer-2
-slice-aggregate-compare-answer-2 c =
-    sym (length-take-le _ _ (rw (c .before .before .before .before .before .before .before .before .before .before .before .lay-part .kept .0) (c .before .before .before .before .before .before .before .before .before .before .before .before .before .before .before .before .before .before .before .if2 .left)))
+sub-make-again : tie.Need-sub-make-again
+sub-make-again c = search needs
 
-array-borrow-prefix-pipe-bytes : tie.Need-array-borrow-prefix-pipe-bytes
-array-borrow-prefix-pipe-bytes c = search needs
+part-make-again-start : tie.Need-part-make-again-start
+part-make-again-start c = search needs
 
-slice-aggregate-compare-answer-3 : tie.Need-slice-aggregate-compare-answer-3
-slice-aggregate-compare-answer-3 c =
-    sym (length-take-le _ _ (rw (c .before .before .before .before .before .before .before .before .before .lay-part2 .kept .0) (c .before .before .before .before .before .before .before .before .before .before .before .before .before .before .before .before .before .before .if4 .left)))
+part-make-again-end : tie.Need-part-make-again-end
+part-make-again-end c = roomy _ _ _ _ (c .before .before .before .before .before .before .before .has-room .ensures) (c .before .before .before .before .before .before .if1 .left) .memory
 
-compare-answer-requires : tie.Need-compare-answer-requires
-compare-answer-requires c κs = search needs
+sub-make-again-2 : tie.Need-sub-make-again-2
+sub-make-again-2 c = search needs
+
+part-pipe-start : tie.Need-part-pipe-start
+part-pipe-start c = search needs
+
+part-pipe-end : tie.Need-part-pipe-end
+part-pipe-end c = roomy _ _ _ _ (c .before .before .before .before .before .before .before .before .before .has-room .ensures) (c .before .before .before .before .before .before .before .before .if1 .left) .pipe
+
+make-again-requires : tie.Need-make-again-requires
+make-again-requires c κs =
+    let room = roomy _ _ _ _ (c .before .before .before .before .before .before .before .before .before .before .has-room .ensures) (c .before .before .before .before .before .before .before .before .before .if1 .left) in
+    record {
+      image = room .image;
+      memory = front-length _ _ (room .memory);
+      pipe = front-length _ _ (room .pipe);
+      room = holds _ _ _ _ (c .before .before .before .before .before .before .before .lay-lent .ensures);
+    }
 
 same-length : tie.Need-same-length
 same-length c = search needs
@@ -85,37 +65,37 @@ same-length c = search needs
 same-length-2 : tie.Need-same-length-2
 same-length-2 c = search needs
 
-returns-5 : tie.Need-returns-5
-returns-5 c = search needs
+returns-2 : tie.Need-returns-2
+unfolding turnCompared turnJudged either
+returns-2 c =
+    let room = roomy _ _ _ _ (c .before .before .before .before .before .before .before .before .before .before .before .before .before .before .has-room .ensures) (c .before .before .before .before .before .before .before .before .before .before .before .before .before .if1 .left) in
+    let made = c .before .before .before .make-again in
+    rw (← c .before .before .before .before .before .before .before .before .before .before .before .before .before .before .before .pieces-of .ensures, ← c .before .before .before .before .before .before .before .before .before .before .before .before .before .before .has-room .ensures, not-false (c .before .before .before .before .before .before .before .before .before .before .before .before .before .before .has-room .result) (c .before .before .before .before .before .before .before .before .before .before .before .before .before .if1 .left))
+    (record {
+      answer = made .ensures .answer;
+      memory =
+          rw (← made .ensures .memory)
+          (loan-kept 0 (c .before .before .before .before .before .before .before .before .before .before .before .before .before .before .before .pieces-of .result .memory .length) (now (c .before .before .before .before .before .before .before .before .before .before .before .before .before .before .before .before .before .before .before .args .memory)) (made .last .1 .1 .0) (omega arith) (room .memory) (made .kept .1 .1 .0));
+      room = c .before .before .before .before .before .before .before .before .before .before .before .lay-lent .ensures;
+    })
 
 pub compare-spec : {M : Type 1} → statement M
 compare-spec =
     tie.close
     (tie.spec
-    piece-at-requires
-    piece-after-requires
-    lent-after-requires
-    piece-after-requires-2
-    left-after-requires
-    ends-of-requires
-    cast-memory-length
-    cast-pipe-length
+    pieces-of-requires
+    has-room-requires
     returns
-    returns-2
-    returns-3
-    returns-4
-    slice-aggregate-lay
-    lay-requires
-    lay-part-requires
-    slice-aggregate-lay-part
-    lay-part-requires-2
     lay-lent-requires
-    slice-aggregate-compare-answer
-    slice-relend-prefix-compare-answer
-    slice-aggregate-compare-answer-2
-    array-borrow-prefix-pipe-bytes
-    slice-aggregate-compare-answer-3
-    compare-answer-requires
+    cast-memory-end
+    cast-pipe-end
+    sub-make-again
+    part-make-again-start
+    part-make-again-end
+    sub-make-again-2
+    part-pipe-start
+    part-pipe-end
+    make-again-requires
     same-length
     same-length-2
-    returns-5)
+    returns-2)

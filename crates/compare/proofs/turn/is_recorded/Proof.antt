@@ -1,5 +1,5 @@
 -- `compare::turn::is_recorded` meets its contract. Assumes nothing.
-use Rattle.compare.specs.Answer.{turnRecorded}
+use Rattle.compare.specs.Turn.{turnRecorded}
 use borrow.Author.Needs.{needs}
 use Rattle.compare.proofs.turn.is_recorded.Statement.{statement}
 use Rattle.compare.proofs.turn.is_recorded.Tie as tie
@@ -39,7 +39,20 @@ both-requires-5 c κs = search needs
 
 returns : tie.Need-returns
 unfolding turnRecorded
-returns c = cc
+returns c =
+    rw (
+      c .both5 .ensures,
+      c .before .before .before .both3 .ensures,
+      c .before .both4 .ensures,
+      c .before .before .before .before .before .before .before .before .both .ensures,
+      c .before .before .before .before .before .both2 .ensures,
+      c .before .before .before .before .before .before .before .before .before .before .is-same .ensures,
+      c .before .before .before .before .before .before .before .before .before .is-same2 .ensures,
+      c .before .before .before .before .before .before .before .is-same3 .ensures,
+      c .before .before .before .before .before .before .is-same4 .ensures,
+      c .before .before .before .before .peek-word .ensures,
+      c .before .before .is-last .ensures,
+    )
 
 pub is-recorded-spec : {M : Type 1} → statement M
 is-recorded-spec =

@@ -1,5 +1,5 @@
 -- `compare::turn::left_after` meets its contract. Assumes nothing.
-use Rattle.compare.specs.Answer.{leftAfter}
+use Rattle.compare.specs.Turn.{leftAfter}
 use Rattle.compare.specs.Piece.{pieceOn}
 use borrow.Author.Needs.{needs}
 use Rattle.compare.proofs.turn.left_after.Statement.{statement}
@@ -19,7 +19,7 @@ piece-after-requires-4 c κs = search needs
 
 returns : tie.Need-returns
 unfolding leftAfter pieceOn
-returns c = cc
+returns c = rw (c .piece-after4 .ensures, c .before .piece-after3 .ensures, c .before .before .piece-after2 .ensures, c .before .before .before .piece-after .ensures)
 
 pub left-after-spec : {M : Type 1} → statement M
 left-after-spec =

@@ -1,0 +1,32 @@
+-- `compare::tally::Tally::turned` meets its contract. Assumes nothing.
+use borrow.Author.Tests.{eq-eqb, ne-eqb}
+use Rattle.command.specs.Choice.{either}
+use Rattle.compare.specs.Tally.{withTurn}
+use borrow.Author.Needs.{needs}
+use Rattle.compare.proofs.tally.Tally.turned.Statement.{statement}
+use Rattle.compare.proofs.tally.Tally.turned.Tie as tie
+
+add-requires : tie.Need-add-requires
+add-requires c κs = search needs
+
+add-requires-2 : tie.Need-add-requires-2
+add-requires-2 c κs = search needs
+
+add-requires-3 : tie.Need-add-requires-3
+add-requires-3 c κs = search needs
+
+returns : tie.Need-returns
+unfolding withTurn either
+returns c = rw (eq-eqb _ _ (c .before .if1 .taken), c .add .ensures)
+
+returns-2 : tie.Need-returns-2
+unfolding withTurn either
+returns-2 c = rw (ne-eqb _ _ (c .before .before .if1 .left), eq-eqb _ _ (c .before .if2 .taken), c .add2 .ensures)
+
+returns-3 : tie.Need-returns-3
+unfolding withTurn either
+returns-3 c = rw (ne-eqb _ _ (c .before .before .if1 .left), ne-eqb _ _ (c .before .if2 .left), c .add3 .ensures)
+
+pub turned-spec : {M : Type 1} → statement M
+turned-spec =
+    tie.close (tie.spec add-requires add-requires-2 add-requires-3 returns returns-2 returns-3)

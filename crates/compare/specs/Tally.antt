@@ -1,0 +1,40 @@
+-- How many calls of each kind were made again, and how many differ. Each count is a word.
+use Prim.Native.Nat.{ℕ}
+use mathlib.Core.Bool.{Bool, true, false}
+use lib.Dec.{eqb}
+use Rattle.words.specs.Arithmetic.{sum}
+use Rattle.command.specs.Choice.{either}
+use Rattle.compare.specs.declared.tally.Seen.{Seen}
+use Rattle.compare.specs.declared.tally.Seen.the-variants.{Fresh, Turn, Damaged}
+use Rattle.compare.specs.declared.tally.Tally.{Tally}
+
+-- of these counts
+abbrev pub tallyOf : ℕ → ℕ → ℕ → ℕ → ℕ → Tally
+tallyOf fresh served idle refused differ =
+    record { fresh = fresh; served = served; idle = idle; refused = refused; differ = differ }
+
+-- one more
+abbrev pub more : ℕ → ℕ
+more n = sum 32 n 1
+
+-- one more made
+abbrev pub withFresh : Tally → Tally
+withFresh t = tallyOf (more (t .fresh)) (t .served) (t .idle) (t .refused) (t .differ)
+
+-- one more turn: status 0 is served, 1 idle, any other refused
+unfoldable pub withTurn : Tally → ℕ → Tally
+withTurn t status =
+    either (eqb status 0) (tallyOf (t .fresh) (more (t .served)) (t .idle) (t .refused) (t .differ))
+    (either (eqb status 1) (tallyOf (t .fresh) (t .served) (more (t .idle)) (t .refused) (t .differ))
+    (tallyOf (t .fresh) (t .served) (t .idle) (more (t .refused)) (t .differ)))
+
+-- one more that differs, unless it is the same
+unfoldable pub held : Tally → Bool → Tally
+held t true = t
+held t false = tallyOf (t .fresh) (t .served) (t .idle) (t .refused) (more (t .differ))
+
+-- one more call; a damaged record differs
+unfoldable pub counted : Tally → Seen → Tally
+counted t (Fresh same) = held (withFresh t) same
+counted t (Turn status same) = held (withTurn t status) same
+counted t Damaged = held t false
