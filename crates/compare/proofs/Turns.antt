@@ -40,48 +40,42 @@ roomy pieces m o r same passed =
       lent = leb-true _ _ (both-right memory lent second);
     }
 
--- the call on what was laid is the recorded call
-made : (body : List ℕ) (pieces : Pieces) (i m o p : List ℕ) → Laid body pieces i m o p
-    → (ends : Ends) → ends ≡ endsOf (pieces .lent) → (r0 r1 r2 r3 pack : List ℕ)
-    → r0 ≡ between o 0 (ends .ring0)
-    → r1 ≡ between o (ends .ring0) (ends .ring1)
-    → r2 ≡ between o (ends .ring1) (ends .ring2)
-    → r3 ≡ between o (ends .ring2) (ends .ring3)
-    → pack ≡ between o (ends .ring3) (ends .pack)
-    → turnCall i (replicate 24 255) (callOf m r0 r1 r2 r3 pack p) ≡ turnMade body pieces
-unfolding turnMade callIn
-made body pieces i m o p laid ends same r0 r1 r2 r3 pack e0 e1 e2 e3 e4 =
-    rw (
-      e0,
-      e1,
-      e2,
-      e3,
-      e4,
-      same,
-      laid .image,
-      laid .memory,
-      laid .pipe,
-      laid .room .ring0,
-      laid .room .ring1,
-      laid .room .ring2,
-      laid .room .ring3,
-      laid .room .pack,
-    )
+-- a call on what was laid
+module _ (body : List ℕ) (pieces : Pieces) (i m o p : List ℕ) (laid : Laid body pieces i m o p)
+    (ends : Ends) (same : ends ≡ endsOf (pieces .lent))
+    (r0 r1 r2 r3 pack : List ℕ)
+    (e0 : r0 ≡ between o 0 (ends .ring0))
+    (e1 : r1 ≡ between o (ends .ring0) (ends .ring1))
+    (e2 : r2 ≡ between o (ends .ring1) (ends .ring2))
+    (e3 : r3 ≡ between o (ends .ring2) (ends .ring3))
+    (e4 : pack ≡ between o (ends .ring3) (ends .pack)) where
+  -- is the recorded call
+  made : turnCall i (replicate 24 255) (callOf m r0 r1 r2 r3 pack p) ≡ turnMade body pieces
+  unfolding turnMade callIn
+  made =
+      rw (
+        e0,
+        e1,
+        e2,
+        e3,
+        e4,
+        same,
+        laid .image,
+        laid .memory,
+        laid .pipe,
+        laid .room .ring0,
+        laid .room .ring1,
+        laid .room .ring2,
+        laid .room .ring3,
+        laid .room .pack,
+      )
 
--- and what is seen and left is that of the recorded call
-pub makes : {body : List ℕ} {pieces : Pieces} {i m o p : List ℕ} → Laid body pieces i m o p
-    → (ends : Ends) → ends ≡ endsOf (pieces .lent) → (r0 r1 r2 r3 pack : List ℕ)
-    → r0 ≡ between o 0 (ends .ring0)
-    → r1 ≡ between o (ends .ring0) (ends .ring1)
-    → r2 ≡ between o (ends .ring1) (ends .ring2)
-    → r3 ≡ between o (ends .ring2) (ends .ring3)
-    → pack ≡ between o (ends .ring3) (ends .pack)
-    → {i′ m′ p′ t′ : List ℕ} {status : ℕ} → Leaves i′ m′ p′ t′ status (turnCall i (replicate 24 255) (callOf m r0 r1 r2 r3 pack p))
-    → (r : Bool) → r ≡ turnRecorded body (pieces .left) i′ m′ p′ t′ status → Makes (Turn status r) m′ body pieces
-unfolding seenOf
-makes laid ends same r0 r1 r2 r3 pack e0 e1 e2 e3 e4 left r judged =
-    let recorded = made _ _ _ _ _ _ laid ends same r0 r1 r2 r3 pack e0 e1 e2 e3 e4 in
-    record {
-      answer = rw (← recorded, judged, left .image, left .memory, left .pipe, left .report, left .answer);
-      memory = rw (← recorded) (left .memory);
-    }
+  -- and what is seen and left is that of the recorded call
+  pub makes : {i′ m′ p′ t′ : List ℕ} {status : ℕ} → Leaves i′ m′ p′ t′ status (turnCall i (replicate 24 255) (callOf m r0 r1 r2 r3 pack p))
+      → (r : Bool) → r ≡ turnRecorded body (pieces .left) i′ m′ p′ t′ status → Makes (Turn status r) m′ body pieces
+  unfolding seenOf
+  makes left r judged =
+      record {
+        answer = rw (← made, judged, left .image, left .memory, left .pipe, left .report, left .answer);
+        memory = rw (← made) (left .memory);
+      }

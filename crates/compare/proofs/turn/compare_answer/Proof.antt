@@ -46,7 +46,7 @@ same-length-3 c = search needs
 
 returns : tie.Need-returns
 returns c =
-    makes (c .before .before .before .before .before .before .before .before .before .before .before .before .before .before .before .before .before .before .before .before .before .before .before .before .before .before .before .before .pre) _ (c .before .before .before .before .before .before .before .before .before .before .before .before .before .before .before .before .before .before .before .before .before .before .ends-of .ensures .0) _ _ _ _ _
+    makes _ _ _ _ _ _ (c .before .before .before .before .before .before .before .before .before .before .before .before .before .before .before .before .before .before .before .before .before .before .before .before .before .before .before .before .pre) _ (c .before .before .before .before .before .before .before .before .before .before .before .before .before .before .before .before .before .before .before .before .before .before .ends-of .ensures .0) _ _ _ _ _
     (c .before .before .before .before .before .before .before .before .before .before .before .before .before .before .before .before .before .before .before .part-of .ensures) (c .before .before .before .before .before .before .before .before .before .before .before .before .before .before .before .before .before .before .part-of2 .ensures) (c .before .before .before .before .before .before .before .before .before .before .before .before .before .before .before .before .before .part-of3 .ensures) (c .before .before .before .before .before .before .before .before .before .before .before .before .before .before .before .before .part-of4 .ensures) (c .before .before .before .before .before .before .before .before .before .before .before .before .before .before .before .part-of5 .ensures)
     (c .before .before .before .before .before .before .before .before .before .before .before .before .turn-call .ensures) _ (c .is-recorded .ensures)
 
