@@ -13,6 +13,8 @@ use Rattle.device.specs.declared.ready.Picked.{Picked}
 use Rattle.device.specs.declared.ready.Picked.the-variants.{Ring as RingOf, Nobody}
 use Rattle.device.specs.Ready.{pickOf}
 use Rattle.device.specs.Turn.{Call, After, unchanged, reportOf, finished, servedOf, pickedOf, judgedOf, verdictOn, turnOf}
+use Rattle.device.specs.Answer.{answerNumber}
+use Rattle.device.proofs.Answers.{refusal-not-0}
 use Rattle.capi.specs.Image.{encode}
 use Rattle.capi.specs.Calls.{isServed, imageAfter, calledOf, turnCall}
 use Rattle.capi.specs.Follows.{followed, TurnFollows}
@@ -25,14 +27,14 @@ module _ (limit : ℕ) (d : Device) (call : Call) where
   Kept a = imageAfter (encode d) (a .turned .device) (a .turned .answer) ≡ encode (a .turned .device)
 
   picked-kept : (p : Picked) → Kept (pickedOf limit d call p)
-  unfolding pickedOf servedOf finished reportOf unchanged imageAfter isServed either
+  unfolding pickedOf servedOf finished reportOf unchanged imageAfter isServed answerNumber either
   picked-kept (RingOf q) = refl
   picked-kept Nobody = refl
 
   judged-kept : (v : Verdict) → Kept (judgedOf limit d call v)
-  unfolding judgedOf unchanged imageAfter isServed either
+  unfolding judgedOf unchanged imageAfter isServed answerNumber either
   judged-kept Sound = picked-kept (pickOf d (call .ring0) (call .ring1) (call .ring2) (call .ring3))
-  judged-kept (Refused why) = refl
+  judged-kept (Refused why) = rw (refusal-not-0 why)
 
   turn-kept : Kept (turnOf limit d call)
   unfolding turnOf

@@ -6,7 +6,7 @@ use mathlib.Core.List.{List, [], _∷_, _++_}
 use Prim.Native.Nat.{ℕ, _^_, _<_}
 use native.Mathlib.Omega.{arith}
 use lib.Dec.{eqb, lit<}
-use lib.ListN.{length, getD}
+use lib.ListN.{length}
 use borrow.Author.Tests.{eqb-true, eqb-false}
 use Rattle.memory.proofs.Places.{word-fits}
 use Rattle.command.specs.declared.header.Command.{Command}
@@ -31,15 +31,15 @@ use Rattle.device.specs.State.{Shaped, SlotsFit, emptyWindow, freshDevice, ring
 use Rattle.device.specs.Refusal.{memoryFits}
 use Rattle.device.specs.Ready.{bytesOfRing, pickOf}
 use Rattle.device.specs.Fresh.{freshOf}
-use Rattle.device.specs.Turn.{Call, emitTo, unchanged, ringAfter, deviceAfter, finished, servedOf, pickedOf, judgedOf, verdictOn, turnOf}
+use Rattle.device.specs.Turn.{Call, unchanged, ringAfter, deviceAfter, finished, servedOf, pickedOf, judgedOf, verdictOn, turnOf}
 use Rattle.device.proofs.Seeks.{next-below}
 use Rattle.device.proofs.Verdicts.{each-of-four, servable}
 use Rattle.device.proofs.Wholes.{whole-inside}
 use Rattle.device.proofs.BytesLeft.{served-ring, other-ring}
 use Rattle.device.proofs.Shapes.{emit-fits, after-shaped, fresh-shaped}
 use Rattle.capi.specs.Image.{heldOf, baseOf, formatOf, ringWords, ringsWords, wordsOf, windowAt}
-use Rattle.capi.specs.Inverse.{Formed}
-use Rattle.capi.specs.Follows.{OfBytes, RingsOfBytes, FreshForms, TurnForms}
+use Rattle.capi.specs.Inverse.{OfBytes, Formed}
+use Rattle.capi.specs.Follows.{RingsOfBytes, FreshForms, TurnForms}
 use Rattle.capi.proofs.Fits.{Fits, fits-none, fits-more, fits-both, fits-left, fits-right, fits-zeros}
 
 -- what is below 2^32 in a frame, and in a ring

@@ -1,7 +1,7 @@
 -- What the two calls leave in the bytes that they are lent, and what they answer.
 use Prim.Native.Nat.{ℕ}
 use mathlib.Core.Path.{_≡_}
-use mathlib.Core.Bool.{Bool, true, false}
+use mathlib.Core.Bool.{Bool}
 use mathlib.Core.List.{List}
 use lib.Dec.{eqb}
 use lib.ListN.{length}
@@ -10,7 +10,6 @@ use Rattle.kernel.specs.Run.{stepLimit}
 use Rattle.device.specs.declared.state.Device.{Device}
 use Rattle.device.specs.declared.fresh.Fresh.{Fresh}
 use Rattle.device.specs.declared.turn.Answer.{Answer}
-use Rattle.device.specs.declared.turn.Answer.the-variants.{Refused as RefusedFor, Idle, Served}
 use Rattle.device.specs.Fresh.{freshOf}
 use Rattle.device.specs.Answer.{answerNumber, makingNumber}
 use Rattle.device.specs.Turn.{Call, After, turnOf}
@@ -58,9 +57,7 @@ pub record Leaves (i m p t : List ℕ) (r : ℕ) (c : Called) : Type 0 where
 
 -- a command was taken
 unfoldable pub isServed : Answer → Bool
-isServed (RefusedFor why) = false
-isServed Idle = false
-isServed (Served report) = true
+isServed answer = eqb (answerNumber answer) 0
 
 -- a served turn's device is put into the image; any other turn leaves it byte for byte
 unfoldable pub imageAfter : List ℕ → Device → Answer → List ℕ

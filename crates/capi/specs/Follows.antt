@@ -1,8 +1,8 @@
 -- A call over a device's image is the device's turn.
-use Prim.Native.Nat.{ℕ, _^_, _<_}
+use Prim.Native.Nat.{ℕ}
 use mathlib.Core.Path.{_≡_}
 use mathlib.Core.List.{List}
-use lib.ListN.{length, getD}
+use lib.ListN.{length}
 use Rattle.kernel.specs.Run.{stepLimit}
 use Rattle.device.specs.declared.state.Device.{Device}
 use Rattle.device.specs.Ready.{bytesOfRing}
@@ -11,7 +11,7 @@ use Rattle.device.specs.Turn.{Call, After, turnOf}
 use Rattle.capi.specs.Image.{encode}
 use Rattle.capi.specs.Report.{reportBytes}
 use Rattle.capi.specs.Calls.{Called, freshFor, turnCall}
-use Rattle.capi.specs.Inverse.{Formed}
+use Rattle.capi.specs.Inverse.{OfBytes, Formed}
 
 -- the image of the device that a turn leaves, and what else it leaves and answers
 unfoldable pub followed : After → Called
@@ -31,22 +31,18 @@ FollowsFrom d = (report : List ℕ) (call : Call) → length report ≡ 24 → t
 abbrev pub TurnFollows : Type 0
 TurnFollows = (d : Device) → Formed d → FollowsFrom d
 
--- lent bytes are bytes
-abbrev pub OfBytes : List ℕ → Type 0
-OfBytes bytes = (i : ℕ) → getD bytes i 0 < 2 ^ 8
-
--- and so are those of each ring that a call lends
-abbrev pub RingsOfBytes : Call → Type 0
-RingsOfBytes call = (q : ℕ) → OfBytes (bytesOfRing q (call .ring0) (call .ring1) (call .ring2) (call .ring3))
-
--- so it is from call to call, for a fresh device is formed
+-- a fresh device is formed, if the windows lent are of bytes
 abbrev pub FreshForms : Type 0
 FreshForms = (windows : List ℕ) (memory : ℕ) → OfBytes windows → Formed (freshFor windows memory .device)
 
--- a turn over rings of bytes leaves a formed device
+-- the rings that a call lends are of bytes
+abbrev pub RingsOfBytes : Call → Type 0
+RingsOfBytes call = (q : ℕ) → OfBytes (bytesOfRing q (call .ring0) (call .ring1) (call .ring2) (call .ring3))
+
+-- a turn from d over rings of bytes leaves a formed device
 abbrev pub FormsFrom : Device → Type 0
 FormsFrom d = (limit : ℕ) (call : Call) → RingsOfBytes call → Formed (turnOf limit d call .turned .device)
 
--- if it starts from one
+-- of every formed device; so a call follows its turn from call to call
 abbrev pub TurnForms : Type 0
 TurnForms = (d : Device) → Formed d → FormsFrom d

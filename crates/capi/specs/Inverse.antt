@@ -7,7 +7,11 @@ use Rattle.device.specs.declared.state.Device.{Device}
 use Rattle.device.specs.State.{Shaped}
 use Rattle.capi.specs.Image.{wordIn, wordsOf, encode, decode}
 
--- what every device has by its type
+-- lent bytes are bytes
+abbrev pub OfBytes : List ℕ → Type 0
+OfBytes bytes = (i : ℕ) → getD bytes i 0 < 2 ^ 8
+
+-- four rings, 64 slots, and each of its 93 words below 2^32: every device has this by its type, see `of_every_device`
 pub record Formed (d : Device) : Type 0 where
   pub shaped : Shaped d
   pub fit : (k : ℕ) → getD (wordsOf d) k 0 < 2 ^ 32
@@ -20,7 +24,7 @@ pub data NormalFrame : ℕ → ℕ → ℕ → ℕ → Type 0 where
 -- an image of 372 bytes, with each ring's frame in normal form
 pub record Normal (image : List ℕ) : Type 0 where
   pub long : length image ≡ 372
-  pub bytes : (i : ℕ) → getD image i 0 < 2 ^ 8
+  pub bytes : OfBytes image
   pub frames : (q : ℕ) → q < 4
       → NormalFrame (wordIn image (7 * q + 3)) (wordIn image (7 * q + 4)) (wordIn image (7 * q + 5)) (wordIn image (7 * q + 6))
 

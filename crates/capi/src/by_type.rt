@@ -4,7 +4,7 @@ ghost use Prim.Native.Nat.{ℕ, _^_, _<_};
 ghost use lib.ListN.{getD};
 ghost use Rattle.capi.specs.Image.{ringWords};
 ghost use Rattle.capi.specs.Imaged.{Imaged};
-ghost use Rattle.capi.specs.Follows.{OfBytes};
+ghost use Rattle.capi.specs.Inverse.{OfBytes};
 use crate::image::ring_words;
 use device::state::Device;
 use device::state::Ring;

@@ -60,49 +60,55 @@ read-next : (start end : ℕ) (whole xs ys zs : List ℕ) → whole ≡ xs ++ ys
 read-next start end whole xs ys zs same low high =
     rw (same, append-assoc, drop-at xs (ys ++ zs) start low) (take-at ys zs (end - start) (omega (arith, length-append xs ys)))
 
--- five pieces put in one after another
-pub laid-lent : (body : List ℕ) (lent : Lent) (ends : Ends) (m m₀ m₁ m₂ m₃ m₄ : List ℕ) → ends ≡ endsOf lent
-    → m₀ ≡ putBack 0 (pieceBytes body (lent .ring0)) m
-    → m₁ ≡ putBack (ends .ring0) (pieceBytes body (lent .ring1)) m₀
-    → m₂ ≡ putBack (ends .ring1) (pieceBytes body (lent .ring2)) m₁
-    → m₃ ≡ putBack (ends .ring2) (pieceBytes body (lent .ring3)) m₂
-    → m₄ ≡ putBack (ends .ring3) (pieceBytes body (lent .pack)) m₃
-    → m₄ ≡ putBack 0 (lentBytes body lent) m
-unfolding endsOf lentBytes
-laid-lent body lent ends m m₀ m₁ m₂ m₃ m₄ same e₀ e₁ e₂ e₃ e₄ =
-    let a = pieceBytes body (lent .ring0) in
-    let b = pieceBytes body (lent .ring1) in
-    let c = pieceBytes body (lent .ring2) in
-    let d = pieceBytes body (lent .ring3) in
-    let e = pieceBytes body (lent .pack) in
-    rw (
-      e₄,
-      e₃,
-      e₂,
-      e₁,
-      e₀,
-      same,
-      put-next (endsOf lent .ring0) a b m (first-length _ _),
-      put-next (endsOf lent .ring1) (a ++ b) c m (simp (length-append, first-length)),
-      put-next (endsOf lent .ring2) (a ++ b ++ c) d m (simp (length-append, first-length)),
-      put-next (endsOf lent .ring3) (a ++ b ++ c ++ d) e m (simp (length-append, first-length)),
-    )
+module _ (body : List ℕ) (lent : Lent) where
+  abbrev a : List ℕ
+  a = pieceBytes body (lent .ring0)
 
--- the room has each piece in its place
-pub holds : (body : List ℕ) (lent : Lent) (m room : List ℕ) → room ≡ putBack 0 (lentBytes body lent) m → Holds body lent room
-unfolding endsOf lentBytes putBack
-holds body lent m room same =
-    let a = pieceBytes body (lent .ring0) in
-    let b = pieceBytes body (lent .ring1) in
-    let c = pieceBytes body (lent .ring2) in
-    let d = pieceBytes body (lent .ring3) in
-    let e = pieceBytes body (lent .pack) in
-    let rest = drop (0 + length (a ++ b ++ c ++ d ++ e)) m in
-    record {
-      fits = rw same (simp (length-append, first-length) (omega arith));
-      ring0 = read-next 0 (endsOf lent .ring0) room [] a (b ++ c ++ d ++ e ++ rest) (same ∙ simp append-assoc) refl (first-length _ _);
-      ring1 = read-next (endsOf lent .ring0) (endsOf lent .ring1) room a b (c ++ d ++ e ++ rest) (same ∙ simp append-assoc) (first-length _ _) (simp (length-append, first-length));
-      ring2 = read-next (endsOf lent .ring1) (endsOf lent .ring2) room (a ++ b) c (d ++ e ++ rest) (same ∙ simp append-assoc) (simp (length-append, first-length)) (simp (length-append, first-length));
-      ring3 = read-next (endsOf lent .ring2) (endsOf lent .ring3) room (a ++ b ++ c) d (e ++ rest) (same ∙ simp append-assoc) (simp (length-append, first-length)) (simp (length-append, first-length));
-      pack = read-next (endsOf lent .ring3) (endsOf lent .pack) room (a ++ b ++ c ++ d) e rest same (simp (length-append, first-length)) (simp (length-append, first-length));
-    }
+  abbrev b : List ℕ
+  b = pieceBytes body (lent .ring1)
+
+  abbrev c : List ℕ
+  c = pieceBytes body (lent .ring2)
+
+  abbrev d : List ℕ
+  d = pieceBytes body (lent .ring3)
+
+  abbrev e : List ℕ
+  e = pieceBytes body (lent .pack)
+
+  -- five pieces put in one after another
+  pub laid-lent : (ends : Ends) (m m₀ m₁ m₂ m₃ m₄ : List ℕ) → ends ≡ endsOf lent
+      → m₀ ≡ putBack 0 a m
+      → m₁ ≡ putBack (ends .ring0) b m₀
+      → m₂ ≡ putBack (ends .ring1) c m₁
+      → m₃ ≡ putBack (ends .ring2) d m₂
+      → m₄ ≡ putBack (ends .ring3) e m₃
+      → m₄ ≡ putBack 0 (lentBytes body lent) m
+  unfolding endsOf lentBytes
+  laid-lent ends m m₀ m₁ m₂ m₃ m₄ same e₀ e₁ e₂ e₃ e₄ =
+      rw (
+        e₄,
+        e₃,
+        e₂,
+        e₁,
+        e₀,
+        same,
+        put-next (endsOf lent .ring0) a b m (first-length _ _),
+        put-next (endsOf lent .ring1) (a ++ b) c m (simp (length-append, first-length)),
+        put-next (endsOf lent .ring2) (a ++ b ++ c) d m (simp (length-append, first-length)),
+        put-next (endsOf lent .ring3) (a ++ b ++ c ++ d) e m (simp (length-append, first-length)),
+      )
+
+  -- the room has each piece in its place
+  pub holds : (m room : List ℕ) → room ≡ putBack 0 (lentBytes body lent) m → Holds body lent room
+  unfolding endsOf lentBytes putBack
+  holds m room same =
+      let rest = drop (0 + length (a ++ b ++ c ++ d ++ e)) m in
+      record {
+        fits = rw same (simp (length-append, first-length) (omega arith));
+        ring0 = read-next 0 (endsOf lent .ring0) room [] a (b ++ c ++ d ++ e ++ rest) (same ∙ simp append-assoc) refl (first-length _ _);
+        ring1 = read-next (endsOf lent .ring0) (endsOf lent .ring1) room a b (c ++ d ++ e ++ rest) (same ∙ simp append-assoc) (first-length _ _) (simp (length-append, first-length));
+        ring2 = read-next (endsOf lent .ring1) (endsOf lent .ring2) room (a ++ b) c (d ++ e ++ rest) (same ∙ simp append-assoc) (simp (length-append, first-length)) (simp (length-append, first-length));
+        ring3 = read-next (endsOf lent .ring2) (endsOf lent .ring3) room (a ++ b ++ c) d (e ++ rest) (same ∙ simp append-assoc) (simp (length-append, first-length)) (simp (length-append, first-length));
+        pack = read-next (endsOf lent .ring3) (endsOf lent .pack) room (a ++ b ++ c ++ d) e rest same (simp (length-append, first-length)) (simp (length-append, first-length));
+      }

@@ -1,6 +1,8 @@
 -- The pieces of a record's body, and what it is for bytes to be those of one.
 use Prim.Native.Nat.{ℕ, zero, suc, _+_}
-use mathlib.Core.Bool.{Bool, _&&_}
+use mathlib.Core.Path.{_≡_}
+use mathlib.Core.Bool.{Bool, true, _&&_}
+use mathlib.Core.Logic.{_↔_}
 use mathlib.Core.List.{List, [], _∷_, _++_}
 use lib.Dec.{eqb, ltb}
 use lib.ListN.{length, getD}
@@ -42,6 +44,10 @@ sameAs bytes n stored = eqb (length bytes) n && allBelow (λ i. eqb (getD bytes 
 -- the bytes are those of a piece
 abbrev pub isPiece : List ℕ → List ℕ → Piece → Bool
 isPiece bytes body piece = sameAs bytes (piece .length) (bytesOf body (piece .stored))
+
+-- so they are exactly if they are the piece's bytes
+abbrev pub PieceIsBytes : Type 0
+PieceIsBytes = (bytes body : List ℕ) (piece : Piece) → (isPiece bytes body piece ≡ true) ↔ (bytes ≡ pieceBytes body piece)
 
 -- no byte follows it
 abbrev pub isLast : List ℕ → Piece → Bool

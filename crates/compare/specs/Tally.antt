@@ -29,12 +29,12 @@ withTurn t status =
     (tallyOf (t .fresh) (t .served) (t .idle) (more (t .refused)) (t .differ)))
 
 -- one more that differs, unless it is the same
-unfoldable pub held : Tally → Bool → Tally
-held t true = t
-held t false = tallyOf (t .fresh) (t .served) (t .idle) (t .refused) (more (t .differ))
+unfoldable pub judged : Tally → Bool → Tally
+judged t true = t
+judged t false = tallyOf (t .fresh) (t .served) (t .idle) (t .refused) (more (t .differ))
 
 -- one more call; a damaged record differs
 unfoldable pub counted : Tally → Seen → Tally
-counted t (Fresh same) = held (withFresh t) same
-counted t (Turn status same) = held (withTurn t status) same
-counted t Damaged = held t false
+counted t (Fresh same) = judged (withFresh t) same
+counted t (Turn status same) = judged (withTurn t status) same
+counted t Damaged = judged t false

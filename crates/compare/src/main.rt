@@ -13,14 +13,14 @@ use tally::Tally;
 // Nothing says that a file ends, and a proved loop has to.
 const MOST_CALLS: u32 = 1000000;
 
-fn compare_all(fd: i32, body: &mut [u8], memory: &mut [u8], lent: &mut [u8]) -> Tally {
+fn compare_all(fd: i32, body: &mut [u8], memory: &mut [u8], room: &mut [u8]) -> Tally {
     let mut tally = Tally::none();
     for _ in 0..MOST_CALLS {
         let n = record::next(fd, body);
         if n == 0 {
             break;
         }
-        tally = tally.with(call::compare(&body[..n], memory, lent));
+        tally = tally.with(call::compare(&body[..n], memory, room));
     }
     tally
 }
@@ -30,16 +30,16 @@ fn compare_in(
     fd: i32,
     body: &mut [u8; 262144],
     memory: &mut [u8; 1048640],
-    lent: &mut [u8; 328400],
+    room: &mut [u8; 328400],
 ) -> Tally {
-    compare_all(fd, body, memory, lent)
+    compare_all(fd, body, memory, room)
 }
 
 fn main() {
     let mut body = [0u8; 262144];
     let mut memory = [0u8; 1048640];
-    let mut lent = [0u8; 328400];
+    let mut room = [0u8; 328400];
     let fd = os::open_read(b"calls");
-    compare_in(fd, &mut body, &mut memory, &mut lent).print();
+    compare_in(fd, &mut body, &mut memory, &mut room).print();
     libc::close(fd);
 }

@@ -1,6 +1,6 @@
 // How many calls of each kind were made again, and how many differ.
 ghost use mathlib.Core.Path.{_≡_};
-ghost use Rattle.compare.specs.Tally.{tallyOf, withTurn, held, counted};
+ghost use Rattle.compare.specs.Tally.{tallyOf, withTurn, judged, counted};
 use libc::STDOUT_FILENO;
 use words::arithmetic::add;
 
@@ -32,8 +32,8 @@ impl Tally {
         }
     }
 
-    fn held(mut self, is_same: bool) -> Self
-        ensures { λ r. ⌜ r ≡ held self «is_same» ⌝ }
+    fn judged(mut self, is_same: bool) -> Self
+        ensures { λ r. ⌜ r ≡ judged self «is_same» ⌝ }
     {
         if is_same {
             return self;
@@ -42,7 +42,7 @@ impl Tally {
         self
     }
 
-    fn turned(mut self, status: u32) -> Self
+    fn with_turn(mut self, status: u32) -> Self
         ensures { λ r. ⌜ r ≡ withTurn self status ⌝ }
     {
         if status == 0 {
@@ -61,10 +61,10 @@ impl Tally {
         match seen {
             Seen::Fresh(is_same) => {
                 self.fresh = add(self.fresh, 1);
-                self.held(is_same)
+                self.judged(is_same)
             }
-            Seen::Turn(status, is_same) => self.turned(status).held(is_same),
-            Seen::Damaged => self.held(false),
+            Seen::Turn(status, is_same) => self.with_turn(status).judged(is_same),
+            Seen::Damaged => self.judged(false),
         }
     }
 

@@ -135,7 +135,7 @@ fn compare_answer(
     Seen::Turn(status, same)
 }
 
-// Lays the recorded bytes into what is lent, and makes the call again.
+// Lays image, memory and pipe, beside the room that holds the rings and the pack, and makes the call again.
 fn make_again(body: &[u8], pieces: Pieces, memory: &mut [u8], room: &[u8], pipe: &mut [u8]) -> Seen
     requires { ⌜ Lends (now body) pieces (now memory) (now room) (now pipe) ⌝ }
     ensures { λ r. ⌜ Makes r (now (memory .exit)) (now (body .entry)) pieces ⌝ }

@@ -1,47 +1,22 @@
--- What the number of an answer tells of it.
+-- A refusal is refused, and serves no ring.
 -- Assumes nothing.
-use mathlib.Core.Path.{_≡_, refl}
+use mathlib.Core.Path.{_≡_}
 use mathlib.Core.Bool.{true}
-use Prim.Native.Nat.{ℕ, _≤_}
-use native.Mathlib.Omega.{arith}
-use borrow.Author.Tests.{le-leb, ne-eqb}
+use Prim.Native.Nat.{ℕ}
+use borrow.Author.Tests.{le-leb}
 use Rattle.command.specs.Choice.{either}
 use Rattle.device.specs.declared.refusal.Refusal.{Refusal}
-use Rattle.device.specs.declared.refusal.Refusal.the-variants.{Memory, State, Rings, Pipe, Pack}
-use Rattle.device.specs.declared.turn.Report.{Report}
-use Rattle.device.specs.declared.turn.Answer.{Answer}
-use Rattle.device.specs.declared.turn.Answer.the-variants.{Refused, Idle, Served}
+use Rattle.device.specs.declared.turn.Answer.the-variants.{Refused}
 use Rattle.device.specs.Refusal.{refusalNumber}
 use Rattle.device.specs.Answer.{answerNumber}
+use Rattle.device.proofs.Answers.{refusal-least, refusal-not-0}
 use Rattle.demands.specs.Calls.{isRefused}
 use Rattle.demands.specs.Bounded.{served}
-
-pub refusal-least : (why : Refusal) → 101 ≤ refusalNumber why
-unfolding refusalNumber
-refusal-least Memory = omega arith
-refusal-least State = omega arith
-refusal-least Rings = omega arith
-refusal-least Pipe = omega arith
-refusal-least Pack = omega arith
 
 pub is-refused : (why : Refusal) → isRefused (Refused why) ≡ true
 unfolding isRefused answerNumber
 is-refused why = le-leb 101 (refusalNumber why) (refusal-least why)
 
--- 0 is a served turn's number alone, and 1 an idle one's
-pub served-report : (a : Answer) → answerNumber a ≡ 0 → (report : Report) × (a ≡ Served report)
-unfolding answerNumber
-served-report (Refused why) e = absurd (omega (arith, refusal-least why))
-served-report Idle e = absurd (omega arith)
-served-report (Served report) e = (report, refl)
-
-pub idle-answer : (a : Answer) → answerNumber a ≡ 1 → a ≡ Idle
-unfolding answerNumber
-idle-answer (Refused why) e = absurd (omega (arith, refusal-least why))
-idle-answer Idle e = refl
-idle-answer (Served report) e = absurd (omega arith)
-
--- a refused call serves no ring
 pub refused-serves : (why : Refusal) (q : ℕ) → served (Refused why) q ≡ 0
 unfolding served answerNumber either
-refused-serves why q = rw (ne-eqb (refusalNumber why) 0 (λ e. omega (arith, refusal-least why)))
+refused-serves why q = rw (refusal-not-0 why)

@@ -23,7 +23,8 @@ use Rattle.device.proofs.BytesLeft.{served-takes}
 use Rattle.device.proofs.Shapes.{turn-shaped, fresh-shaped}
 use Rattle.demands.specs.Calls.{answerOf, leftBy, isRefused, heard, none, more}
 use Rattle.demands.specs.Bounded.{Lends, served, taken, leftIn, SaysIdle, here, later, TurnsBounded, IdleInTime, FreshIdleInTime}
-use Rattle.demands.proofs.Answers.{refusal-least, is-refused, refused-serves}
+use Rattle.device.proofs.Answers.{refusal-least}
+use Rattle.demands.proofs.Answers.{is-refused, refused-serves}
 use Rattle.demands.proofs.Turns.{was-served, picked-servable}
 use Rattle.demands.proofs.Keeps.{keeps}
 use Rattle.demands.proofs.Sums.{sum-both}

@@ -19,7 +19,7 @@ use Rattle.device.specs.State.{SlotsFit, emptyWindow, freshRing, ringOf, slotOf
 use Rattle.device.specs.Ready.{nextRing}
 use Rattle.device.specs.Turn.{emitTo, ringAfter, deviceAfter}
 use Rattle.device.proofs.BytesLeft.{rings-after}
-use Rattle.device.proofs.Shapes.{emit-fits}
+use Rattle.device.proofs.Shapes.{put-each, emit-fits}
 
 -- a number put in one place of a list, no less than what it held, lowers no place
 put-rises : (xs : List ℕ) (n v m : ℕ) → getD xs n 0 ≤ v → getD xs m 0 ≤ getD (set xs n v) m 0
@@ -28,15 +28,6 @@ put-rises (x ∷ xs) zero v zero h = h
 put-rises (x ∷ xs) zero v (suc m) h = le-refl _
 put-rises (x ∷ xs) (suc n) v zero h = le-refl _
 put-rises (x ∷ xs) (suc n) v (suc m) h = put-rises xs n v m h
-
--- what holds of a ring put in place q, if that is place n, and of what place n held, holds of place n after it
-put-each : (P : Ring → Type 0) (xs : List Ring) (q : ℕ) (ring : Ring) (n : ℕ) → (n ≡ q → P ring) → P (getD xs n (freshRing emptyWindow))
-    → P (getD (set xs q ring) n (freshRing emptyWindow))
-put-each P [] q ring n new old = old
-put-each P (x ∷ xs) zero ring zero new old = new refl
-put-each P (x ∷ xs) zero ring (suc n) new old = old
-put-each P (x ∷ xs) (suc q) ring zero new old = old
-put-each P (x ∷ xs) (suc q) ring (suc n) new old = put-each P xs q ring n (λ e. new (ap suc e)) old
 
 pub emit-rises : (b : Bool) (d : Device) (n : ℕ) → SlotsFit d → (b ≡ true → slotOf d n ≡ 4294967295 → ⊥) → (m : ℕ)
     → slotOf d m ≤ slotOf (emitTo b d n) m
@@ -66,7 +57,7 @@ module _ (d : Device) (q : ℕ) (c : Command) (p : Performed) where
   -- what holds of the served ring after its command, if it is ring n, and held of ring n, holds of ring n
   pub after-ring : (P : Ring → Type 0) (n : ℕ) → (n ≡ q → P (ringAfter (ringOf d q) c (p .frame))) → P (ringOf d n) → P (ringOf (deviceAfter d q c p) n)
   unfolding ringOf
-  after-ring P n new old = rw (rings-after d q c p) (put-each P (d .rings) q (ringAfter (ringOf d q) c (p .frame)) n new old)
+  after-ring P n new old = rw (rings-after d q c p) (put-each P (freshRing emptyWindow) (d .rings) q (ringAfter (ringOf d q) c (p .frame)) n new old)
 
   -- the windows stay
   pub after-windows : (n : ℕ) → ringOf (deviceAfter d q c p) n .window ≡ ringOf d n .window

@@ -31,7 +31,8 @@ use Rattle.device.proofs.Shapes.{after-shaped, fresh-shaped}
 use Rattle.demands.specs.Calls.{ringIn, headIn, answerOf, leftBy, isRefused, EachHeard, none, more}
 use Rattle.demands.specs.Bounded.{Lends, served, taken}
 use Rattle.demands.specs.Idle.{placeOf, nth, isEmitting, emitsIn, countOf, oneMore, Order, nothing, start, lastOf, IdleIsDone}
-use Rattle.demands.proofs.Answers.{idle-answer, refused-serves}
+use Rattle.device.proofs.Answers.{idle-answer}
+use Rattle.demands.proofs.Answers.{refused-serves}
 use Rattle.demands.proofs.Turns.{pickIn, servedIn, workIn, turn-cases, marker-below, served-heard, picked-servable}
 use Rattle.demands.proofs.Works.{emits-when-sound}
 use Rattle.demands.proofs.Devices.{after-emit, after-no-emit, after-other-slot}

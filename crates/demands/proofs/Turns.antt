@@ -24,7 +24,7 @@ use Rattle.device.specs.Answer.{answerNumber, valuesOf}
 use Rattle.device.specs.Turn.{Call, After, unchanged, fenceOf, reportOf, finished, servedOf, pickedOf, judgedOf, verdictOn, turnOf, Servable}
 use Rattle.device.proofs.Verdicts.{steady, servable}
 use Rattle.demands.specs.Calls.{ringIn, headIn, answerOf, numberIn, valuesIn, isRefused}
-use Rattle.demands.proofs.Answers.{served-report}
+use Rattle.device.proofs.Answers.{served-report}
 
 -- the ring that a call's turn picks
 abbrev pub pickIn : Device → Call → Picked

@@ -62,7 +62,7 @@ pub record Gives (fresh : Fresh) (d : Device) (number : ℕ) : Type 0 where
   pub device : fresh .device ≡ d
   pub answer : makingNumber (fresh .answer) ≡ number
 
--- making a device over a memory of that length: it is made, or where the windows do not fit it gives 101 and an empty device
+-- making a device over a memory of `memory` bytes: it is made, or where the windows do not fit it gives 101 and an empty device
 pub record Making (memory : ℕ) (w0 w1 w2 w3 : Window) : Type 0 where
   pub made : memoryFits memory w0 w1 w2 w3 ≡ true → Gives (freshOf memory w0 w1 w2 w3) (freshDevice w0 w1 w2 w3) 0
   pub refused : memoryFits memory w0 w1 w2 w3 ≡ false

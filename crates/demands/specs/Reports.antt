@@ -43,7 +43,7 @@ pub record Reported (d : Device) (q : ℕ) (c : Command) (v : Values) (after : D
   -- words read is len for a READ_MEM with outcome 0, else 0
   pub words : Reads c (v .outcome) → v .words ≡ c .len
   pub no-words : (Reads c (v .outcome) → ⊥) → v .words ≡ 0
-  -- IRQ is reported exactly then
+  -- IRQ is reported exactly if bit 0 is set and the outcome is not 1 to 4
   pub irq : (v .irq ≡ true) ↔ Interrupts c (v .outcome)
   -- the cursor moves past the command, and the window stays
   pub cursor : ringOf after q .cursor ≡ ringOf d q .cursor + c .size

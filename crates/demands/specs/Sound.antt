@@ -7,6 +7,7 @@ use lib.ListN.{length}
 use Rattle.kernel.specs.Pack.{soundPack}
 use Rattle.device.specs.declared.state.Window.{Window}
 use Rattle.device.specs.declared.state.Device.{Device}
+use Rattle.device.specs.State.{ringOf}
 use Rattle.device.specs.Answer.{makingNumber}
 use Rattle.device.specs.Refusal.{windowsFit, stateSound, ringsFit}
 use Rattle.device.specs.Fresh.{freshOf}
@@ -17,8 +18,10 @@ use Rattle.demands.specs.Calls.{leftBy, numberIn, EachCall}
 pub record StaysSound (limit : ℕ) (d : Device) (call : Call) : Type 0 where
   -- a state that is not refused as 102 leaves one that is not
   pub state : stateSound d ≡ true → stateSound (leftBy limit d call) ≡ true
-  -- the windows stay, so 101 is met only with another memory
-  pub windows : (memory : ℕ) → windowsFit (leftBy limit d call) memory ≡ windowsFit d memory
+  -- the windows stay
+  pub windows : (q : ℕ) → ringOf (leftBy limit d call) q .window ≡ ringOf d q .window
+  -- so they fit the same memories, and 101 is met only with another
+  pub fits : (memory : ℕ) → windowsFit (leftBy limit d call) memory ≡ windowsFit d memory
   -- a call from such a state is not refused as 102
   pub not-102 : stateSound d ≡ true → numberIn limit d call ≡ 102 → ⊥
   -- a call whose memory the windows fit is not refused as 101
@@ -44,7 +47,7 @@ unfoldable pub SoundRefusals : Type 0
 SoundRefusals =
     (limit : ℕ) (d : Device) (call : Call) → stateSound d ≡ true → windowsFit d (length (call .memory)) ≡ true → RefusedForLent limit d call
 
--- making a device over a memory of that length
+-- making a device over a memory of `memory` bytes
 pub record MakesSound (memory : ℕ) (w0 w1 w2 w3 : Window) : Type 0 where
   -- made or refused, its state is sound
   pub state : stateSound (freshOf memory w0 w1 w2 w3 .device) ≡ true
@@ -56,12 +59,12 @@ pub record MakesSound (memory : ℕ) (w0 w1 w2 w3 : Window) : Type 0 where
 unfoldable pub FreshMakesSound : Type 0
 FreshMakesSound = (memory : ℕ) (w0 w1 w2 w3 : Window) → MakesSound memory w0 w1 w2 w3
 
--- a call over a device that was handed back: it is not refused as 102, and on a memory of that length only for what it lends
+-- a call over a device that was handed back: it is not refused as 102, and on `memory` bytes only for what it lends
 pub record HandedBack (memory limit : ℕ) (d : Device) (call : Call) : Type 0 where
   pub not-102 : numberIn limit d call ≡ 102 → ⊥
   pub lent : length (call .memory) ≡ memory → RefusedForLent limit d call
 
--- so is each call, one after another, from a sound state whose windows fit a memory of that length
+-- so is each call, one after another, from a sound state whose windows fit so many bytes
 unfoldable pub CallsStaySound : Type 0
 CallsStaySound =
     (limit memory : ℕ) (d : Device) (calls : List Call) → stateSound d ≡ true → windowsFit d memory ≡ true

@@ -4,3 +4,4 @@ pub mod Verdicts
 pub mod Windows
 pub mod BytesLeft
 pub mod Shapes
+pub mod Answers

@@ -1,6 +1,6 @@
 -- A turn leaves four rings and 64 slots, and a fresh device has them; an emit leaves numbers that fit.
 -- Assumes nothing.
-use mathlib.Core.Path.{refl, _∙_}
+use mathlib.Core.Path.{_≡_, refl, ap, _∙_}
 use mathlib.Core.Bool.{Bool, true, false}
 use mathlib.Core.List.{List, [], _∷_}
 use Prim.Native.Nat.{ℕ, zero, suc, _^_, _<_}
@@ -29,18 +29,19 @@ unfolding emitTo either withSlots emittedIn
 after-emit true d n s = record { rings = s .rings; slots = length-set (d .slots) n _ ∙ s .slots }
 after-emit false d n s = s
 
--- a number put in one place of a list leaves every place below a bound that the number is below
-put-below : (k : ℕ) (xs : List ℕ) (n v m : ℕ) → getD xs m 0 < k → v < k → getD (set xs n v) m 0 < k
-put-below k [] n v m h new = h
-put-below k (x ∷ xs) zero v zero h new = new
-put-below k (x ∷ xs) zero v (suc m) h new = h
-put-below k (x ∷ xs) (suc n) v zero h new = h
-put-below k (x ∷ xs) (suc n) v (suc m) h new = put-below k xs n v m h new
+-- what holds of a value put in place q, if that is place n, and of what place n held, holds of place n after it
+pub put-each : {A : Type 0} (P : A → Type 0) (other : A) (xs : List A) (q : ℕ) (v : A) (n : ℕ) → (n ≡ q → P v) → P (getD xs n other)
+    → P (getD (set xs q v) n other)
+put-each P other [] q v n new old = old
+put-each P other (x ∷ xs) zero v zero new old = new refl
+put-each P other (x ∷ xs) zero v (suc n) new old = old
+put-each P other (x ∷ xs) (suc q) v zero new old = old
+put-each P other (x ∷ xs) (suc q) v (suc n) new old = put-each P other xs q v n (λ e. new (ap suc e)) old
 
 -- so an emit leaves numbers that fit
 pub emit-fits : (b : Bool) (d : Device) (n : ℕ) → SlotsFit d → SlotsFit (emitTo b d n)
 unfolding emitTo either withSlots emittedIn slotOf SlotsFit
-emit-fits true d n fit m = put-below (2 ^ 32) (d .slots) n (emitted (getD (d .slots) n 0)) m (fit m) (omega arith)
+emit-fits true d n fit m = put-each (λ x. x < 2 ^ 32) 0 (d .slots) n (emitted (getD (d .slots) n 0)) m (λ e. omega arith) (fit m)
 emit-fits false d n fit m = fit m
 
 pub after-shaped : (d : Device) (q : ℕ) (c : Command) (p : Performed) → Shaped d → Shaped (deviceAfter d q c p)

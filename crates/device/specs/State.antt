@@ -41,7 +41,7 @@ slotOf d n = getD (d .slots) n 0
 unfoldable pub SlotsFit : Device → Type 0
 SlotsFit d = (n : ℕ) → slotOf d n < 2 ^ 32
 
--- what every device has by its type
+-- what every device has by its type: four rings, 64 slots, and 32-bit numbers in the slots and the marker
 pub record ByType (d : Device) : Type 0 where
   pub shaped : Shaped d
   pub slots-fit : SlotsFit d

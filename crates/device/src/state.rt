@@ -44,7 +44,7 @@ impl Device {
         }
     }
 
-    // Hands the device back: that every device has four rings and 64 slots of 32 bits is this contract.
+    // Hands the device back: that every device has four rings, 64 slots and numbers of 32 bits is this contract.
     pub fn by_type(self) -> Self
         ensures { λ r. ⌜ (r ≡ self) × ByType self ⌝ }
     {

@@ -8,11 +8,11 @@ use Rattle.compare.proofs.compare_all.Statement.{statement}
 use Rattle.compare.proofs.compare_all.Tie as tie
 
 abbrev Inv-loop : tie.InvT-loop
-Inv-loop fd body₀ memory₀ lent₀ tally₀ counter₀ body memory lent tally counter =
-    (counter ≤ 1000000) × (length body ≡ length body₀) × (length memory ≡ length memory₀) × (length lent ≡ length lent₀)
+Inv-loop fd body₀ memory₀ room₀ tally₀ counter₀ body memory room tally counter =
+    (counter ≤ 1000000) × (length body ≡ length body₀) × (length memory ≡ length memory₀) × (length room ≡ length room₀)
 
 abbrev μ-loop : tie.MeasureT-loop
-μ-loop fd body₀ memory₀ lent₀ tally₀ counter₀ body memory lent tally counter = 1000000 - counter
+μ-loop fd body₀ memory₀ room₀ tally₀ counter₀ body memory room tally counter = 1000000 - counter
 
 none-requires : tie.Need-none-requires Inv-loop μ-loop
 none-requires c κs = search needs

@@ -1,10 +1,10 @@
--- `compare::tally::Tally::turned` meets its contract. Assumes nothing.
+-- `compare::tally::Tally::with_turn` meets its contract. Assumes nothing.
 use borrow.Author.Tests.{eq-eqb, ne-eqb}
 use Rattle.command.specs.Choice.{either}
 use Rattle.compare.specs.Tally.{withTurn}
 use borrow.Author.Needs.{needs}
-use Rattle.compare.proofs.tally.Tally.turned.Statement.{statement}
-use Rattle.compare.proofs.tally.Tally.turned.Tie as tie
+use Rattle.compare.proofs.tally.Tally.with_turn.Statement.{statement}
+use Rattle.compare.proofs.tally.Tally.with_turn.Tie as tie
 
 add-requires : tie.Need-add-requires
 add-requires c κs = search needs
@@ -27,6 +27,6 @@ returns-3 : tie.Need-returns-3
 unfolding withTurn either
 returns-3 c = rw (ne-eqb _ _ (c .before .before .if1 .left), ne-eqb _ _ (c .before .if2 .left), c .add3 .ensures)
 
-pub turned-spec : {M : Type 1} → statement M
-turned-spec =
+pub with-turn-spec : {M : Type 1} → statement M
+with-turn-spec =
     tie.close (tie.spec add-requires add-requires-2 add-requires-3 returns returns-2 returns-3)
