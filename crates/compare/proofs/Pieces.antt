@@ -1,7 +1,7 @@
 -- Bytes are those of a piece exactly if they are the piece's bytes.
 -- Assumes nothing.
 use mathlib.Core.Path.{_≡_, refl, sym, _∙_}
-use mathlib.Core.Bool.{Bool, true, false, _&&_}
+use mathlib.Core.Bool.{Bool, true}
 use mathlib.Core.List.{List, [], _∷_}
 use mathlib.Core.Logic.{⊎-elim}
 use Prim.Native.Nat.{ℕ, zero, suc, _<_}
@@ -14,8 +14,7 @@ use borrow.Author.Tests.{eqb-true, eq-eqb}
 use Rattle.command.proofs.Choices.{both-left, both-right}
 use Rattle.job.specs.Kernels.{allBelow}
 use Rattle.job.specs.Parts.{bytesOf}
-use Rattle.compare.specs.declared.piece.Piece.{Piece}
-use Rattle.compare.specs.Piece.{firstBytes, sameAs, pieceBytes, isPiece, PieceIsBytes}
+use Rattle.compare.specs.Piece.{firstBytes, sameAs, PieceIsBytes}
 use Rattle.compare.proofs.Laid.{first-length}
 
 -- each of the first n bytes is the byte there
