@@ -7,7 +7,8 @@ use native.Mathlib.Numerals.{add-one}
 use native.Mathlib.Omega.{arith}
 use lib.ListN.{length, getD, set, take, drop, length-append, length-take, length-drop}
 use lib.Seq.{drop-cons, append-snoc, set-at, take-at, drop-at, drop-append-add, drop-drop}
-use Rattle.memory.specs.Window.{putBack}
+use Rattle.memory.specs.Window.{windowOf, putBack}
+use Rattle.job.specs.Parts.{bytesOf}
 use Rattle.memory.proofs.Window.{loan-put-back}
 use Rattle.compare.specs.declared.lent.Lent.{Lent}
 use Rattle.compare.specs.declared.lent.Ends.{Ends}
@@ -57,6 +58,7 @@ put-next n xs ys m long =
 -- and read again
 read-next : (start end : ℕ) (whole xs ys zs : List ℕ) → whole ≡ xs ++ ys ++ zs → length xs ≡ start → length (xs ++ ys) ≡ end
     → between whole start end ≡ ys
+unfolding bytesOf windowOf
 read-next start end whole xs ys zs same low high =
     rw (same, append-assoc, drop-at xs (ys ++ zs) start low) (take-at ys zs (end - start) (omega (arith, length-append xs ys)))
 
@@ -105,7 +107,6 @@ module _ (body : List ℕ) (lent : Lent) where
   holds m room same =
       let rest = drop (0 + length (a ++ b ++ c ++ d ++ e)) m in
       record {
-        fits = rw same (simp (length-append, first-length) (omega arith));
         ring0 = read-next 0 (endsOf lent .ring0) room [] a (b ++ c ++ d ++ e ++ rest) (same ∙ simp append-assoc) refl (first-length _ _);
         ring1 = read-next (endsOf lent .ring0) (endsOf lent .ring1) room a b (c ++ d ++ e ++ rest) (same ∙ simp append-assoc) (first-length _ _) (simp (length-append, first-length));
         ring2 = read-next (endsOf lent .ring1) (endsOf lent .ring2) room (a ++ b) c (d ++ e ++ rest) (same ∙ simp append-assoc) (simp (length-append, first-length)) (simp (length-append, first-length));

@@ -1,8 +1,8 @@
 -- The rings and the pack of a recorded turn.
-use Prim.Native.Nat.{ℕ, _+_, _-_, _≤_}
+use Prim.Native.Nat.{ℕ, _+_}
 use mathlib.Core.Path.{_≡_}
 use mathlib.Core.List.{List, _++_}
-use lib.ListN.{length, take, drop}
+use Rattle.job.specs.Parts.{bytesOf}
 use Rattle.compare.specs.declared.piece.Piece.{Piece}
 use Rattle.compare.specs.declared.lent.Lent.{Lent}
 use Rattle.compare.specs.declared.lent.Ends.{Ends}
@@ -18,10 +18,6 @@ lentAfter body piece =
       ring3 = pieceOn body piece 4;
       pack = pieceOn body piece 5;
     }
-
--- no piece ends before the one before it
-abbrev pub InOrder : Ends → Type 0
-InOrder ends = (ends .ring0 ≤ ends .ring1) × (ends .ring1 ≤ ends .ring2) × (ends .ring2 ≤ ends .ring3) × (ends .ring3 ≤ ends .pack)
 
 -- where each ends when they stand one after another
 unfoldable pub endsOf : Lent → Ends
@@ -41,11 +37,10 @@ lentBytes body lent =
 
 -- the bytes of a room from one place up to another
 abbrev pub between : List ℕ → ℕ → ℕ → List ℕ
-between room start end = take (end - start) (drop start room)
+between room start end = bytesOf room (record { start = start; end = end })
 
 -- a room has each piece's bytes in its place
 pub record Holds (body : List ℕ) (lent : Lent) (room : List ℕ) : Type 0 where
-  pub fits : endsOf lent .pack ≤ length room
   pub ring0 : between room 0 (endsOf lent .ring0) ≡ pieceBytes body (lent .ring0)
   pub ring1 : between room (endsOf lent .ring0) (endsOf lent .ring1) ≡ pieceBytes body (lent .ring1)
   pub ring2 : between room (endsOf lent .ring1) (endsOf lent .ring2) ≡ pieceBytes body (lent .ring2)

@@ -4,10 +4,12 @@ ghost use lib.ListN.{length};
 ghost use mathlib.Core.Path.{_≡_};
 ghost use Rattle.memory.specs.Window.{putBack};
 ghost use Rattle.compare.specs.Piece.{pieceBytes};
-ghost use Rattle.compare.specs.Lent.{InOrder, lentAfter, endsOf, lentBytes, between};
+ghost use Rattle.compare.specs.Lent.{lentAfter, endsOf, lentBytes, between};
 use crate::piece::Piece;
 use crate::piece::lay;
 use crate::piece::piece_after;
+use job::parts::Part;
+use job::parts::bytes_of;
 
 pub struct Lent {
     pub ring0: Piece,
@@ -44,7 +46,7 @@ pub fn lent_after(body: &[u8], piece: Piece) -> Lent
 }
 
 pub fn ends_of(lent: Lent) -> Ends
-    ensures { λ r. ⌜ (r ≡ endsOf lent) × InOrder r ⌝ }
+    ensures { λ r. ⌜ r ≡ endsOf lent ⌝ }
 {
     let ring0 = lent.ring0.length as usize;
     let ring1 = ring0 + lent.ring1.length as usize;
@@ -82,9 +84,9 @@ pub fn lay_lent(room: &mut [u8], body: &[u8], lent: Lent)
     lay_part(room, ends.ring3, body, lent.pack);
 }
 
+// The bytes of the room from `start` up to `end`.
 pub fn part_of(room: &[u8], start: usize, end: usize) -> &[u8]
-    requires { ⌜ (start ≤ end) × (end ≤ length (now room)) ⌝ }
     ensures { λ r. ⌜ now r ≡ between (now (room .entry)) start end ⌝ }
 {
-    &room[start..end]
+    bytes_of(room, Part { start, end })
 }

@@ -1,6 +1,5 @@
 -- `compare::lent::ends_of` meets its contract. Assumes nothing.
 use mathlib.Core.Path.{refl}
-use native.Mathlib.Omega.{arith}
 use Rattle.compare.specs.Lent.{endsOf}
 use borrow.Author.Needs.{needs}
 use Rattle.compare.proofs.lent.ends_of.Statement.{statement}
@@ -35,7 +34,7 @@ add-pack c = search needs
 
 returns : tie.Need-returns
 unfolding endsOf
-returns c = (refl, (omega arith, omega arith, omega arith, omega arith))
+returns c = refl
 
 pub ends-of-spec : {M : Type 1} → statement M
 ends-of-spec =

@@ -15,25 +15,25 @@ lay-part-requires c κs = omega arith
 
 lay-part-requires-2 : tie.Need-lay-part-requires-2
 unfolding endsOf
-lay-part-requires-2 c κs = rw (c .before .before .before .before .before .ends-of .ensures .0) (omega arith)
+lay-part-requires-2 c κs = rw (c .before .before .before .before .before .ends-of .ensures) (omega arith)
 
 lay-part-requires-3 : tie.Need-lay-part-requires-3
 unfolding endsOf
-lay-part-requires-3 c κs = rw (c .before .before .before .before .before .before .before .before .before .ends-of .ensures .0) (omega arith)
+lay-part-requires-3 c κs = rw (c .before .before .before .before .before .before .before .before .before .ends-of .ensures) (omega arith)
 
 lay-part-requires-4 : tie.Need-lay-part-requires-4
 unfolding endsOf
-lay-part-requires-4 c κs = rw (c .before .before .before .before .before .before .before .before .before .before .before .before .before .ends-of .ensures .0) (omega arith)
+lay-part-requires-4 c κs = rw (c .before .before .before .before .before .before .before .before .before .before .before .before .before .ends-of .ensures) (omega arith)
 
 lay-part-requires-5 : tie.Need-lay-part-requires-5
 unfolding endsOf
-lay-part-requires-5 c κs = rw (c .before .before .before .before .before .before .before .before .before .before .before .before .before .before .before .before .before .ends-of .ensures .0) (omega arith)
+lay-part-requires-5 c κs = rw (c .before .before .before .before .before .before .before .before .before .before .before .before .before .before .before .before .before .ends-of .ensures) (omega arith)
 
 same-length : tie.Need-same-length
 same-length c = search needs
 
 returns : tie.Need-returns
-returns c = laid-lent _ _ _ _ _ _ _ _ _ (c .before .before .before .before .before .before .before .before .before .before .before .before .before .before .before .before .before .before .before .before .ends-of .ensures .0) (c .before .before .before .before .before .before .before .before .before .before .before .before .before .before .before .before .before .before .lay-part .ensures) (c .before .before .before .before .before .before .before .before .before .before .before .before .before .before .lay-part2 .ensures) (c .before .before .before .before .before .before .before .before .before .before .lay-part3 .ensures) (c .before .before .before .before .before .before .lay-part4 .ensures) (c .before .before .lay-part5 .ensures)
+returns c = laid-lent _ _ _ _ _ _ _ _ _ (c .before .before .before .before .before .before .before .before .before .before .before .before .before .before .before .before .before .before .before .before .ends-of .ensures) (c .before .before .before .before .before .before .before .before .before .before .before .before .before .before .before .before .before .before .lay-part .ensures) (c .before .before .before .before .before .before .before .before .before .before .before .before .before .before .lay-part2 .ensures) (c .before .before .before .before .before .before .before .before .before .before .lay-part3 .ensures) (c .before .before .before .before .before .before .lay-part4 .ensures) (c .before .before .lay-part5 .ensures)
 
 pub lay-lent-spec : {M : Type 1} → statement M
 lay-lent-spec =

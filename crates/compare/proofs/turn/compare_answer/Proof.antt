@@ -1,5 +1,4 @@
 -- `compare::turn::compare_answer` meets its contract. Assumes nothing.
-use native.Mathlib.Omega.{arith}
 use Rattle.compare.proofs.Turns.{makes}
 use borrow.Author.Needs.{needs}
 use Rattle.compare.proofs.turn.compare_answer.Statement.{statement}
@@ -9,19 +8,19 @@ ends-of-requires : tie.Need-ends-of-requires
 ends-of-requires c κs = search needs
 
 part-of-requires : tie.Need-part-of-requires
-part-of-requires c κs = let fits = rw (← c .before .before .ends-of .ensures .0) at (c .before .before .before .before .before .before .before .before .pre .room .fits) in (omega arith, omega arith)
+part-of-requires c κs = search needs
 
 part-of-requires-2 : tie.Need-part-of-requires-2
-part-of-requires-2 c κs = let fits = rw (← c .before .before .before .ends-of .ensures .0) at (c .before .before .before .before .before .before .before .before .before .pre .room .fits) in (omega arith, omega arith)
+part-of-requires-2 c κs = search needs
 
 part-of-requires-3 : tie.Need-part-of-requires-3
-part-of-requires-3 c κs = let fits = rw (← c .before .before .before .before .ends-of .ensures .0) at (c .before .before .before .before .before .before .before .before .before .before .pre .room .fits) in (omega arith, omega arith)
+part-of-requires-3 c κs = search needs
 
 part-of-requires-4 : tie.Need-part-of-requires-4
-part-of-requires-4 c κs = let fits = rw (← c .before .before .before .before .before .ends-of .ensures .0) at (c .before .before .before .before .before .before .before .before .before .before .before .pre .room .fits) in (omega arith, omega arith)
+part-of-requires-4 c κs = search needs
 
 part-of-requires-5 : tie.Need-part-of-requires-5
-part-of-requires-5 c κs = let fits = rw (← c .before .before .before .before .before .before .ends-of .ensures .0) at (c .before .before .before .before .before .before .before .before .before .before .before .before .pre .room .fits) in (omega arith, omega arith)
+part-of-requires-5 c κs = search needs
 
 slice-aggregate-turn-call : tie.Need-slice-aggregate-turn-call
 slice-aggregate-turn-call c = search needs
@@ -46,7 +45,7 @@ same-length-3 c = search needs
 
 returns : tie.Need-returns
 returns c =
-    makes _ _ _ _ _ _ (c .before .before .before .before .before .before .before .before .before .before .before .before .before .before .before .before .before .before .before .before .before .before .before .before .before .before .before .before .pre) _ (c .before .before .before .before .before .before .before .before .before .before .before .before .before .before .before .before .before .before .before .before .before .before .ends-of .ensures .0) _ _ _ _ _
+    makes _ _ _ _ _ _ (c .before .before .before .before .before .before .before .before .before .before .before .before .before .before .before .before .before .before .before .before .before .before .before .before .before .before .before .before .pre) _ (c .before .before .before .before .before .before .before .before .before .before .before .before .before .before .before .before .before .before .before .before .before .before .ends-of .ensures) _ _ _ _ _
     (c .before .before .before .before .before .before .before .before .before .before .before .before .before .before .before .before .before .before .before .part-of .ensures) (c .before .before .before .before .before .before .before .before .before .before .before .before .before .before .before .before .before .before .part-of2 .ensures) (c .before .before .before .before .before .before .before .before .before .before .before .before .before .before .before .before .before .part-of3 .ensures) (c .before .before .before .before .before .before .before .before .before .before .before .before .before .before .before .before .part-of4 .ensures) (c .before .before .before .before .before .before .before .before .before .before .before .before .before .before .before .part-of5 .ensures)
     (c .before .before .before .before .before .before .before .before .before .before .before .before .turn-call .ensures) _ (c .is-recorded .ensures)
 

@@ -21,7 +21,7 @@ both-requires-3 c κs = search needs
 
 returns : tie.Need-returns
 unfolding hasRoom
-returns c = rw (c .both3 .ensures, c .before .both2 .ensures, c .before .before .before .both .ensures, c .before .before .before .before .before .before .before .ends-of .ensures .0)
+returns c = rw (c .both3 .ensures, c .before .both2 .ensures, c .before .before .before .both .ensures, c .before .before .before .before .before .before .before .ends-of .ensures)
 
 pub has-room-spec : {M : Type 1} → statement M
 has-room-spec =
