@@ -5,13 +5,13 @@ use Prim.Native.Nat.{ℕ}
 use lib.ListN.{length}
 use borrow.Author.Tests.{eq-eqb}
 use Rattle.kernel.specs.Run.{stepLimit}
-use Rattle.command.specs.Choice.{either}
-use Rattle.device.specs.declared.state.Device.{Device}
-use Rattle.device.specs.declared.refusal.Verdict.{Verdict}
-use Rattle.device.specs.declared.refusal.Verdict.the-variants.{Sound, Refused}
-use Rattle.device.specs.declared.ready.Picked.{Picked}
-use Rattle.device.specs.declared.ready.Picked.the-variants.{Ring as RingOf, Nobody}
-use Rattle.device.specs.Ready.{pickOf}
+use Rattle.words.specs.Choice.{either}
+use Rattle.state.specs.declared.device.Device.{Device}
+use Rattle.state.specs.declared.refusal.Verdict.{Verdict}
+use Rattle.state.specs.declared.refusal.Verdict.the-variants.{Sound, Refused}
+use Rattle.state.specs.declared.ready.Picked.{Picked}
+use Rattle.state.specs.declared.ready.Picked.the-variants.{Ring as RingOf, Nobody}
+use Rattle.state.specs.Ready.{pickOf}
 use Rattle.device.specs.Turn.{Call, After, unchanged, reportOf, finished, servedOf, pickedOf, judgedOf, verdictOn, turnOf}
 use Rattle.device.specs.Answer.{answerNumber}
 use Rattle.device.proofs.Answers.{refusal-not-0}

@@ -11,28 +11,28 @@ use borrow.Author.Tests.{eqb-true, eqb-false}
 use Rattle.memory.proofs.Places.{word-fits}
 use Rattle.command.specs.declared.header.Command.{Command}
 use Rattle.command.specs.declared.frame.Frame.{Frame}
-use Rattle.command.specs.declared.work.Performed.{Performed}
-use Rattle.command.specs.Choice.{either}
+use Rattle.work.specs.declared.work.Performed.{Performed}
+use Rattle.words.specs.Choice.{either}
 use Rattle.command.specs.Frame.{strideOf}
 use Rattle.command.specs.Header.{commandAt}
 use Rattle.command.specs.Report.{emits}
-use Rattle.command.specs.Work.{Left, leaves, afterDispatch, heldBy}
-use Rattle.command.specs.Perform.{performedOf}
-use Rattle.command.proofs.Works.{work-has}
-use Rattle.command.proofs.Performs.{performed-has}
-use Rattle.device.specs.declared.state.Window.{Window}
-use Rattle.device.specs.declared.state.Ring.{Ring}
-use Rattle.device.specs.declared.state.Device.{Device}
-use Rattle.device.specs.declared.refusal.Verdict.{Verdict}
-use Rattle.device.specs.declared.refusal.Verdict.the-variants.{Sound, Refused}
-use Rattle.device.specs.declared.ready.Picked.{Picked}
-use Rattle.device.specs.declared.ready.Picked.the-variants.{Ring as RingOf, Nobody}
-use Rattle.device.specs.State.{Shaped, SlotsFit, emptyWindow, freshDevice, ringOf, slotOf, withRing, withMarker}
-use Rattle.device.specs.Refusal.{memoryFits}
-use Rattle.device.specs.Ready.{bytesOfRing, pickOf}
+use Rattle.work.specs.Work.{Left, leaves, afterDispatch, heldBy}
+use Rattle.work.specs.Perform.{performedOf}
+use Rattle.work.proofs.Works.{work-has}
+use Rattle.work.proofs.Performs.{performed-has}
+use Rattle.state.specs.declared.device.Window.{Window}
+use Rattle.state.specs.declared.device.Ring.{Ring}
+use Rattle.state.specs.declared.device.Device.{Device}
+use Rattle.state.specs.declared.refusal.Verdict.{Verdict}
+use Rattle.state.specs.declared.refusal.Verdict.the-variants.{Sound, Refused}
+use Rattle.state.specs.declared.ready.Picked.{Picked}
+use Rattle.state.specs.declared.ready.Picked.the-variants.{Ring as RingOf, Nobody}
+use Rattle.state.specs.Device.{Shaped, SlotsFit, emptyWindow, freshDevice, ringOf, slotOf, withRing, withMarker}
+use Rattle.state.specs.Refusal.{memoryFits}
+use Rattle.state.specs.Ready.{bytesOfRing, pickOf}
 use Rattle.device.specs.Fresh.{freshOf}
 use Rattle.device.specs.Turn.{Call, unchanged, ringAfter, deviceAfter, finished, servedOf, pickedOf, judgedOf, verdictOn, turnOf}
-use Rattle.device.proofs.Seeks.{next-below}
+use Rattle.state.proofs.Seeks.{next-below}
 use Rattle.device.proofs.Verdicts.{each-of-four, servable}
 use Rattle.device.proofs.Wholes.{whole-inside}
 use Rattle.device.proofs.BytesLeft.{served-ring, other-ring}

@@ -1,6 +1,6 @@
 -- What a formed device and its image have.
 -- Assumes nothing.
-use Rattle.device.specs.declared.state.Device.{Device}
+use Rattle.state.specs.declared.device.Device.{Device}
 use Rattle.capi.specs.Inverse.{Formed}
 use Rattle.capi.specs.Imaged.{Imaged}
 use Rattle.capi.proofs.Sizes.{encode-length}

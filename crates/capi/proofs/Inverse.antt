@@ -9,10 +9,10 @@ use lib.ListN.{length, getD}
 use lib.Seq.{take-all, take-at, getD-at}
 use Rattle.command.specs.declared.frame.Frame.{Frame}
 use Rattle.command.specs.declared.frame.Frame.the-variants.{Unset, Held}
-use Rattle.command.specs.Choice.{either}
+use Rattle.words.specs.Choice.{either}
 use Rattle.command.specs.Frame.{strideOf}
-use Rattle.device.specs.declared.state.Ring.{Ring}
-use Rattle.device.specs.State.{emptyWindow, freshRing, ringOf}
+use Rattle.state.specs.declared.device.Ring.{Ring}
+use Rattle.state.specs.Device.{emptyWindow, freshRing, ringOf}
 use Rattle.capi.specs.Image.{wordIn, wordsIn, heldOf, baseOf, formatOf, ringWords, ringsWords, wordsOf, encode, frameOf, windowAt, ringAt, decode}
 use Rattle.capi.specs.Inverse.{Normal, NormalFrame, held, unset, DecodeEncode, EncodeDecode}
 use Rattle.capi.proofs.Sizes.{words-length}

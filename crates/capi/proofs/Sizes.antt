@@ -3,7 +3,7 @@
 use mathlib.Core.Path.{_≡_, refl}
 use native.Mathlib.Omega.{arith}
 use lib.ListN.{length, length-append}
-use Rattle.device.specs.declared.state.Device.{Device}
+use Rattle.state.specs.declared.device.Device.{Device}
 use Rattle.capi.specs.Image.{ringWords, ringsWords, wordsOf, encode}
 use Rattle.capi.specs.Inverse.{EncodeLength}
 use Rattle.capi.proofs.WordBytes.{bytes-length}

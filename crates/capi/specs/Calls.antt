@@ -5,9 +5,9 @@ use mathlib.Core.Bool.{Bool}
 use mathlib.Core.List.{List}
 use lib.Dec.{eqb}
 use lib.ListN.{length}
-use Rattle.command.specs.Choice.{either}
+use Rattle.words.specs.Choice.{either}
 use Rattle.kernel.specs.Run.{stepLimit}
-use Rattle.device.specs.declared.state.Device.{Device}
+use Rattle.state.specs.declared.device.Device.{Device}
 use Rattle.device.specs.declared.fresh.Fresh.{Fresh}
 use Rattle.device.specs.declared.turn.Answer.{Answer}
 use Rattle.device.specs.Fresh.{freshOf}

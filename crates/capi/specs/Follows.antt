@@ -4,8 +4,8 @@ use mathlib.Core.Path.{_≡_}
 use mathlib.Core.List.{List}
 use lib.ListN.{length}
 use Rattle.kernel.specs.Run.{stepLimit}
-use Rattle.device.specs.declared.state.Device.{Device}
-use Rattle.device.specs.Ready.{bytesOfRing}
+use Rattle.state.specs.declared.device.Device.{Device}
+use Rattle.state.specs.Ready.{bytesOfRing}
 use Rattle.device.specs.Answer.{answerNumber}
 use Rattle.device.specs.Turn.{Call, After, turnOf}
 use Rattle.capi.specs.Image.{encode}

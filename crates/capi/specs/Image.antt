@@ -6,12 +6,12 @@ use Rattle.words.specs.Bytes.{byteOf}
 use Rattle.memory.specs.Place.{wordAt}
 use Rattle.command.specs.declared.frame.Frame.{Frame}
 use Rattle.command.specs.declared.frame.Frame.the-variants.{Unset, Held}
-use Rattle.command.specs.Choice.{either}
+use Rattle.words.specs.Choice.{either}
 use Rattle.command.specs.Frame.{strideOf}
-use Rattle.device.specs.declared.state.Window.{Window}
-use Rattle.device.specs.declared.state.Ring.{Ring}
-use Rattle.device.specs.declared.state.Device.{Device}
-use Rattle.device.specs.State.{deviceOf, ringOf}
+use Rattle.state.specs.declared.device.Window.{Window}
+use Rattle.state.specs.declared.device.Ring.{Ring}
+use Rattle.state.specs.declared.device.Device.{Device}
+use Rattle.state.specs.Device.{deviceOf, ringOf}
 
 -- the bytes of words, the lowest byte of each first
 unfoldable pub bytesOf : List ℕ → List ℕ

@@ -2,7 +2,7 @@
 -- `Device`.
 use mathlib.Core.Path.{_≡_}
 use lib.ListN.{length}
-use Rattle.device.specs.declared.state.Device.{Device}
+use Rattle.state.specs.declared.device.Device.{Device}
 use Rattle.capi.specs.Image.{encode, decode}
 use Rattle.capi.specs.Inverse.{Formed}
 use Rattle.capi.specs.Follows.{FollowsFrom, FormsFrom}

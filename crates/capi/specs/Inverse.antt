@@ -3,8 +3,8 @@ use Prim.Native.Nat.{ℕ, _+_, _*_, _^_, _<_}
 use mathlib.Core.Path.{_≡_}
 use mathlib.Core.List.{List}
 use lib.ListN.{length, getD}
-use Rattle.device.specs.declared.state.Device.{Device}
-use Rattle.device.specs.State.{Shaped}
+use Rattle.state.specs.declared.device.Device.{Device}
+use Rattle.state.specs.Device.{Shaped}
 use Rattle.capi.specs.Image.{wordIn, wordsOf, encode, decode}
 
 -- lent bytes are bytes

@@ -6,8 +6,8 @@ ghost use Rattle.capi.specs.Image.{ringWords};
 ghost use Rattle.capi.specs.Imaged.{Imaged};
 ghost use Rattle.capi.specs.Inverse.{OfBytes};
 use crate::image::ring_words;
-use device::state::Device;
-use device::state::Ring;
+use state::device::Device;
+use state::device::Ring;
 
 // The words of a ring are an array of u32, so each is below 2^32.
 fn of_every_ring(ring: Ring) -> [u32; 7]

@@ -12,9 +12,9 @@ use crate::report::REPORT_BYTES;
 use crate::report::report_words;
 use device::fresh::make;
 use device::fresh::making_number;
-use device::state::Device;
 use device::turn::Answer;
 use device::turn::turn;
+use state::device::Device;
 
 // An image, a report or windows of the wrong length: the call changes nothing.
 pub const WRONG_IMAGE: u32 = 201;

@@ -9,8 +9,8 @@ use crate::lent::window_at;
 use crate::lent::word_in;
 use command::frame::Frame;
 use command::frame::stride_of;
-use device::state::Device;
-use device::state::Ring;
+use state::device::Device;
+use state::device::Ring;
 
 pub const IMAGE_BYTES: usize = 372;
 

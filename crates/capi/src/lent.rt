@@ -4,9 +4,9 @@ ghost use Prim.Native.Nat.{_+_, _*_, _≤_};
 ghost use lib.ListN.{length};
 ghost use lib.Seq.{sets};
 ghost use Rattle.capi.specs.Image.{bytesOf, wordIn, windowAt};
-use device::state::Window;
 use memory::place::put_word;
 use memory::place::word_at;
+use state::device::Window;
 
 pub fn word_in(bytes: &[u8], k: usize) -> u32
     requires { ⌜ 4 * k + 4 ≤ length (now bytes) ⌝ }

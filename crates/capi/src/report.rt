@@ -3,8 +3,8 @@ ghost use mathlib.Core.Path.{_≡_};
 ghost use mathlib.Core.Bool.{cond};
 ghost use Rattle.capi.specs.Report.{reportWords};
 use command::outcome::number;
-use device::refusal::refusal_number;
 use device::turn::Answer;
+use state::refusal::refusal_number;
 
 pub const REPORT_BYTES: usize = 24;
 

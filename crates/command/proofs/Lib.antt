@@ -1,15 +1,5 @@
-pub mod Choices
 pub mod Every
 pub mod Entries
 pub mod Outcomes
 pub mod Sizes
 pub mod Agree
-pub mod Shapes
-pub mod Inside
-pub mod Works
-pub mod Faultless
-pub mod Performs
-pub mod Numbers
-pub mod Kept
-pub mod Reports
-pub mod Rings

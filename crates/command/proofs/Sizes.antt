@@ -12,7 +12,7 @@ use borrow.Author.Tests.{leb-true}
 use Rattle.memory.proofs.Places.{Bytes}
 use Rattle.command.specs.Flags.{waitBit, payloadBit}
 use Rattle.command.specs.Header.{waitSize, payloadSize, commandAt, isWhole}
-use Rattle.command.proofs.Choices.{cond-le}
+use Rattle.words.proofs.Choices.{cond-le}
 
 pub wait-size-most : (flags : ℕ) → waitSize flags ≤ 4
 unfolding waitSize

@@ -1,7 +1,7 @@
 -- Header faults, outcomes 1 to 4.
 use mathlib.Core.Bool.{Bool, not, _&&_, _||_}
 use lib.Dec.{ltb}
-use Rattle.command.specs.Choice.{differ, either}
+use Rattle.words.specs.Choice.{differ, either}
 use Rattle.command.specs.declared.outcome.Outcome.{Outcome}
 use Rattle.command.specs.declared.outcome.Outcome.the-variants.{Done, UnknownOpcode, ReservedFlag, WrongPayloadBit, NoSuchSlot}
 use Rattle.command.specs.declared.header.Command.{Command}

@@ -2,7 +2,7 @@
 use Prim.Native.Nat.{ℕ, _%_}
 use mathlib.Core.Bool.{Bool, not, _||_}
 use lib.Dec.{eqb, ltb, leb}
-use Rattle.command.specs.Choice.{either}
+use Rattle.words.specs.Choice.{either}
 use Rattle.command.specs.declared.outcome.Outcome.{Outcome}
 use Rattle.command.specs.declared.outcome.Outcome.the-variants.{Done, Misaligned, OutsideTheWindow, BadFrame}
 use Rattle.command.specs.declared.frame.Frame.{Frame}

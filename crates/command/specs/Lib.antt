@@ -1,5 +1,4 @@
 pub mod Outcome
-pub mod Choice
 pub mod Opcode
 pub mod Table
 pub mod Flags
@@ -7,7 +6,3 @@ pub mod Header
 pub mod Faults
 pub mod Frame
 pub mod Report
-pub mod Shape
-pub mod Checks
-pub mod Work
-pub mod Perform

@@ -1,13 +1,13 @@
 // Header faults, outcomes 1 to 4.
 ghost use mathlib.Core.Path.{_≡_};
 ghost use Rattle.command.specs.Faults.{unknownOpcode, wrongPayloadBit, noSuchSlot, headerFault};
-use crate::choice::differing;
-use crate::choice::one_of;
 use crate::flags;
 use crate::header::Command;
 use crate::outcome::Outcome;
 use crate::table::row_of;
 use words::choice::both;
+use words::choice::differing;
+use words::choice::one_of;
 
 fn is_unknown(command: Command) -> bool
     ensures { λ r. ⌜ r ≡ unknownOpcode command ⌝ }

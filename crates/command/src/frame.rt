@@ -1,8 +1,8 @@
 // A ring's frame, and the test that SET_FB makes of one.
 ghost use mathlib.Core.Path.{_≡_};
 ghost use Rattle.command.specs.Frame.{notAMultiple, frameMisaligned, frameOutside, frameUnfit, frameFault, heldFault, strideOf};
-use crate::choice::one_of;
 use crate::outcome::Outcome;
+use words::choice::one_of;
 
 pub enum Frame {
     Unset,

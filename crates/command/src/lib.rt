@@ -1,14 +1,9 @@
-// Commands: the header, the opcode table, the faults in order, and the work of each command on its ring's window.
-pub mod checks;
-pub mod choice;
+// Commands as they are read: the header, the opcode table, the flags, the faults that a header shows, and what is reported.
 pub mod faults;
 pub mod flags;
 pub mod frame;
 pub mod header;
 pub mod opcode;
 pub mod outcome;
-pub mod perform;
 pub mod report;
-pub mod shape;
 pub mod table;
-pub mod work;

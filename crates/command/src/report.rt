@@ -1,7 +1,6 @@
 // What a command and its outcome make a turn report.
 ghost use mathlib.Core.Path.{_≡_};
 ghost use Rattle.command.specs.Report.{emits, interrupts, wordsRead};
-use crate::choice::one_of;
 use crate::flags;
 use crate::header::Command;
 use crate::opcode;
@@ -9,6 +8,7 @@ use crate::outcome::Outcome;
 use crate::outcome::is_done;
 use crate::outcome::number;
 use words::choice::both;
+use words::choice::one_of;
 
 // Whether it adds 1 to its slot.
 pub fn emits_fence(command: Command, outcome: Outcome) -> bool

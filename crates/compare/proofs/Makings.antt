@@ -7,7 +7,7 @@ use mathlib.Core.Bool.{true, _&&_}
 use lib.Dec.{eqb}
 use borrow.Author.Tests.{eqb-true}
 use Rattle.memory.specs.Place.{withWord}
-use Rattle.command.proofs.Choices.{both-left, both-right}
+use Rattle.words.proofs.Choices.{both-left, both-right}
 use Rattle.capi.specs.Image.{bytesOf}
 use Rattle.compare.specs.declared.fresh.Pieces.{Pieces}
 use Rattle.compare.specs.Fresh.{areWhole}

@@ -11,7 +11,7 @@ use lib.Dec.{eqb}
 use lib.ListN.{length, getD, List·getD-append}
 use lib.Seq.{ext-getD, getD-at}
 use borrow.Author.Tests.{eqb-true, eq-eqb}
-use Rattle.command.proofs.Choices.{both-left, both-right}
+use Rattle.words.proofs.Choices.{both-left, both-right}
 use Rattle.job.specs.Kernels.{allBelow}
 use Rattle.job.specs.Parts.{bytesOf}
 use Rattle.compare.specs.Piece.{firstBytes, sameAs, PieceIsBytes}

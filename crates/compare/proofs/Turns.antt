@@ -7,7 +7,7 @@ use mathlib.Core.List.{List}
 use lib.Dec.{eqb, leb}
 use lib.ListN.{replicate}
 use borrow.Author.Tests.{eqb-true, leb-true, not-false}
-use Rattle.command.proofs.Choices.{both-left, both-right}
+use Rattle.words.proofs.Choices.{both-left, both-right}
 use Rattle.device.specs.Turn.{callOf}
 use Rattle.capi.specs.Calls.{Leaves, turnCall}
 use Rattle.compare.specs.declared.tally.Seen.the-variants.{Turn}

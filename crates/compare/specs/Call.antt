@@ -3,7 +3,7 @@ use Prim.Native.Nat.{ℕ}
 use mathlib.Core.List.{List}
 use lib.Dec.{eqb}
 use Rattle.memory.specs.Place.{wordAt}
-use Rattle.command.specs.Choice.{either}
+use Rattle.words.specs.Choice.{either}
 use Rattle.compare.specs.declared.tally.Seen.the-variants.{Damaged}
 use Rattle.compare.specs.Compared.{Compared, untouched}
 use Rattle.compare.specs.Fresh.{freshSeen}

@@ -4,7 +4,7 @@ use mathlib.Core.Bool.{Bool, _&&_}
 use mathlib.Core.List.{List, [], _∷_}
 use lib.Dec.{eqb}
 use Rattle.memory.specs.Place.{wordAt}
-use Rattle.command.specs.Choice.{either}
+use Rattle.words.specs.Choice.{either}
 use Rattle.capi.specs.Image.{bytesOf}
 use Rattle.capi.specs.Calls.{Freshened, freshCall}
 use Rattle.compare.specs.declared.tally.Seen.{Seen}

@@ -6,7 +6,7 @@ use mathlib.Core.Logic.{_↔_}
 use mathlib.Core.List.{List, [], _∷_, _++_}
 use lib.Dec.{eqb, ltb}
 use lib.ListN.{length, getD}
-use Rattle.command.specs.Choice.{either}
+use Rattle.words.specs.Choice.{either}
 use Rattle.memory.specs.Place.{wordAt}
 use Rattle.job.specs.Kernels.{allBelow}
 use Rattle.job.specs.Parts.{bytesOf}

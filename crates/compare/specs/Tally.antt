@@ -3,7 +3,7 @@ use Prim.Native.Nat.{ℕ}
 use mathlib.Core.Bool.{Bool, true, false}
 use lib.Dec.{eqb}
 use Rattle.words.specs.Arithmetic.{sum}
-use Rattle.command.specs.Choice.{either}
+use Rattle.words.specs.Choice.{either}
 use Rattle.compare.specs.declared.tally.Seen.{Seen}
 use Rattle.compare.specs.declared.tally.Seen.the-variants.{Fresh, Turn, Damaged}
 use Rattle.compare.specs.declared.tally.Tally.{Tally}

@@ -7,7 +7,7 @@ use lib.Dec.{eqb, leb}
 use lib.ListN.{length, replicate}
 use Rattle.memory.specs.Place.{wordAt}
 use Rattle.memory.specs.Window.{putBack}
-use Rattle.command.specs.Choice.{either}
+use Rattle.words.specs.Choice.{either}
 use Rattle.device.specs.Turn.{Call, callOf}
 use Rattle.capi.specs.Calls.{Called, turnCall}
 use Rattle.compare.specs.declared.tally.Seen.{Seen}

@@ -4,10 +4,10 @@ use mathlib.Core.Path.{_≡_}
 use mathlib.Core.Bool.{true}
 use Prim.Native.Nat.{ℕ}
 use borrow.Author.Tests.{le-leb}
-use Rattle.command.specs.Choice.{either}
-use Rattle.device.specs.declared.refusal.Refusal.{Refusal}
+use Rattle.words.specs.Choice.{either}
+use Rattle.state.specs.declared.refusal.Refusal.{Refusal}
 use Rattle.device.specs.declared.turn.Answer.the-variants.{Refused}
-use Rattle.device.specs.Refusal.{refusalNumber}
+use Rattle.state.specs.Refusal.{refusalNumber}
 use Rattle.device.specs.Answer.{answerNumber}
 use Rattle.device.proofs.Answers.{refusal-least, refusal-not-0}
 use Rattle.demands.specs.Calls.{isRefused}

@@ -1,7 +1,7 @@
 -- What the type of a device gives is all that the demands ask of one.
 -- Assumes nothing.
-use Rattle.device.specs.declared.state.Device.{Device}
-use Rattle.device.specs.State.{ByType}
+use Rattle.state.specs.declared.device.Device.{Device}
+use Rattle.state.specs.Device.{ByType}
 use Rattle.demands.specs.FourTurns.{FourTurns, FourTurnsByHead}
 use Rattle.demands.specs.Keeps.{TurnKeeps}
 use Rattle.demands.specs.Sound.{TurnStaysSound}

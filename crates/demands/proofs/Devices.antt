@@ -9,14 +9,14 @@ use native.Mathlib.Omega.{arith}
 use lib.ListN.{getD, set}
 use lib.Seq.{getD-set-other}
 use Rattle.command.specs.declared.header.Command.{Command}
-use Rattle.command.specs.declared.work.Performed.{Performed}
-use Rattle.command.specs.Choice.{either}
+use Rattle.work.specs.declared.work.Performed.{Performed}
+use Rattle.words.specs.Choice.{either}
 use Rattle.command.specs.Report.{emits}
-use Rattle.device.specs.declared.state.Ring.{Ring}
-use Rattle.device.specs.declared.state.Device.{Device}
-use Rattle.device.specs.Slots.{emitted, emittedIn}
-use Rattle.device.specs.State.{SlotsFit, emptyWindow, freshRing, ringOf, slotOf, withRing, withSlots, withMarker}
-use Rattle.device.specs.Ready.{nextRing}
+use Rattle.state.specs.declared.device.Ring.{Ring}
+use Rattle.state.specs.declared.device.Device.{Device}
+use Rattle.state.specs.Slots.{emitted, emittedIn}
+use Rattle.state.specs.Device.{SlotsFit, emptyWindow, freshRing, ringOf, slotOf, withRing, withSlots, withMarker}
+use Rattle.state.specs.Ready.{nextRing}
 use Rattle.device.specs.Turn.{emitTo, ringAfter, deviceAfter}
 use Rattle.device.proofs.BytesLeft.{rings-after}
 use Rattle.device.proofs.Shapes.{put-each, emit-fits}

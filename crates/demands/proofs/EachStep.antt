@@ -12,7 +12,7 @@ use Rattle.memory.specs.Quad.{loadQuadOf, storeQuadOf}
 use Rattle.instruction.specs.declared.effect.Stop.the-variants.{NotListed, OffTheKernel, OutsideTheWindow, OutOfSteps}
 use Rattle.instruction.specs.Decode.{decoded}
 use Rattle.instruction.specs.Effect.{loadedEffect, loadedQuadEffect, effectOf}
-use Rattle.kernel.specs.declared.pack.Kernel.{Kernel}
+use Rattle.pack.specs.declared.kernels.Kernel.{Kernel}
 use Rattle.kernel.specs.declared.thread.Thread.{Thread}
 use Rattle.kernel.specs.declared.dispatch.Ran.{Ran}
 use Rattle.kernel.specs.declared.dispatch.Ran.the-variants.{Done, Stopped as StoppedFor}
@@ -26,11 +26,11 @@ use Rattle.kernel.proofs.Dispatches.{no-thread, one-thread-more}
 use Rattle.kernel.proofs.StepLimit.{running-at-the-limit, out-of-steps, wfi-at-the-limit}
 use Rattle.kernel.proofs.Threads.{starts-fresh, thread-number, one-more-thread}
 use Rattle.command.specs.Outcome.{outcomeNumber}
-use Rattle.command.specs.Work.{leaves, ranOutcome, dispatchedBy, afterDispatch}
-use Rattle.command.proofs.Works.{work-dispatch}
-use Rattle.command.proofs.Performs.{performed-work}
-use Rattle.device.specs.declared.state.Device.{Device}
-use Rattle.device.specs.State.{ringOf, slotOf}
+use Rattle.work.specs.Work.{leaves, ranOutcome, dispatchedBy, afterDispatch}
+use Rattle.work.proofs.Works.{work-dispatch}
+use Rattle.work.proofs.Performs.{performed-work}
+use Rattle.state.specs.declared.device.Device.{Device}
+use Rattle.state.specs.Device.{ringOf, slotOf}
 use Rattle.device.specs.Answer.{valuesOf}
 use Rattle.device.specs.Turn.{Call, servedOf}
 use Rattle.demands.specs.Calls.{ringIn, headIn, numberIn, valuesIn, ringServed}

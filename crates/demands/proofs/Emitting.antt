@@ -10,13 +10,13 @@ use borrow.Author.Tests.{ltb-false}
 use Rattle.command.specs.declared.header.Command.{Command}
 use Rattle.command.specs.declared.frame.Frame.{Frame}
 use Rattle.command.specs.declared.outcome.Outcome.the-variants.{Done, UnknownOpcode, ReservedFlag, WrongPayloadBit, NoSuchSlot}
-use Rattle.command.specs.Choice.{either}
+use Rattle.words.specs.Choice.{either}
 use Rattle.command.specs.Faults.{unknownOpcode, wrongPayloadBit, noSuchSlot, headerFault}
 use Rattle.command.specs.Flags.{emitBit, waitBit, reservedBit}
 use Rattle.command.specs.Outcome.{outcomeNumber, isDone}
-use Rattle.command.specs.Perform.{performedOf}
+use Rattle.work.specs.Perform.{performedOf}
 use Rattle.command.specs.Report.{emits}
-use Rattle.command.proofs.Choices.{both-left, both-right}
+use Rattle.words.proofs.Choices.{both-left, both-right}
 use Rattle.demands.specs.Idle.{isEmitting}
 use Rattle.demands.proofs.Works.{full-slot-stays, emits-when-sound}
 

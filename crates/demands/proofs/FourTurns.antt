@@ -11,18 +11,18 @@ use lib.Dec.{eqb}
 use lib.ListN.{getD}
 use borrow.Author.Tests.{leb-true, le-leb, eqb-true, eqb-false}
 use Rattle.command.specs.declared.header.Command.{Command}
-use Rattle.command.specs.Choice.{either}
+use Rattle.words.specs.Choice.{either}
 use Rattle.command.specs.Flags.{waitBit}
 use Rattle.command.specs.Faults.{headerFault}
 use Rattle.command.specs.Header.{commandAt, isWhole}
 use Rattle.command.specs.Outcome.{isDone}
 use Rattle.command.proofs.Agree.{command-agree, whole-agree}
-use Rattle.command.proofs.Choices.{both-left, both-right}
-use Rattle.device.specs.declared.state.Device.{Device}
-use Rattle.device.specs.declared.ready.Picked.the-variants.{Ring as RingOf}
-use Rattle.device.specs.State.{SlotsFit, ringOf, slotOf}
+use Rattle.words.proofs.Choices.{both-left, both-right}
+use Rattle.state.specs.declared.device.Device.{Device}
+use Rattle.state.specs.declared.ready.Picked.the-variants.{Ring as RingOf}
+use Rattle.state.specs.Device.{SlotsFit, ringOf, slotOf}
 use Rattle.device.specs.Answer.{answerNumber, valuesOf}
-use Rattle.device.specs.Ready.{isMet, readyWith, readyWhere, readyAt, pickOf}
+use Rattle.state.specs.Ready.{isMet, readyWith, readyWhere, readyAt, pickOf}
 use Rattle.device.specs.Turn.{Call, After, turnOf, unchanged, reportOf, finished, servedOf}
 use Rattle.device.proofs.Wholes.{whole-inside}
 use Rattle.device.proofs.BytesLeft.{other-ring}

@@ -12,17 +12,17 @@ use lib.ListN.{length, getD, replicate}
 use lib.Seq.{getD-set-same}
 use borrow.Author.Tests.{eqb-true, eqb-false, eq-eqb}
 use Rattle.command.specs.declared.header.Command.{Command}
-use Rattle.command.specs.declared.work.Performed.{Performed}
-use Rattle.command.specs.Choice.{either}
+use Rattle.work.specs.declared.work.Performed.{Performed}
+use Rattle.words.specs.Choice.{either}
 use Rattle.command.specs.Report.{emits}
-use Rattle.device.specs.declared.state.Window.{Window}
-use Rattle.device.specs.declared.state.Device.{Device}
-use Rattle.device.specs.declared.refusal.Verdict.the-variants.{Sound}
-use Rattle.device.specs.declared.ready.Picked.the-variants.{Ring as RingOf}
+use Rattle.state.specs.declared.device.Window.{Window}
+use Rattle.state.specs.declared.device.Device.{Device}
+use Rattle.state.specs.declared.refusal.Verdict.the-variants.{Sound}
+use Rattle.state.specs.declared.ready.Picked.the-variants.{Ring as RingOf}
 use Rattle.device.specs.declared.turn.Answer.the-variants.{Idle}
-use Rattle.device.specs.State.{Shaped, freshDevice, ringOf, slotOf}
-use Rattle.device.specs.Ready.{readyWhere, readyAt, pickOf}
-use Rattle.device.specs.Slots.{emitted}
+use Rattle.state.specs.Device.{Shaped, freshDevice, ringOf, slotOf}
+use Rattle.state.specs.Ready.{readyWhere, readyAt, pickOf}
+use Rattle.state.specs.Slots.{emitted}
 use Rattle.device.specs.Answer.{answerNumber}
 use Rattle.device.specs.Turn.{Call, unchanged, deviceAfter, finished, reportOf, servedOf, verdictOn}
 use Rattle.device.specs.Left.{sumOf}

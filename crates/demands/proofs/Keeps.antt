@@ -5,14 +5,14 @@ use Prim.Native.Nat.{ℕ, _+_, _≤_}
 use native.Mathlib.Omega.{arith}
 use lib.ListN.{length, getD}
 use Rattle.memory.proofs.Window.{window-length, put-back-window, put-back-length, put-back-outside}
-use Rattle.command.specs.Choice.{either}
+use Rattle.words.specs.Choice.{either}
 use Rattle.command.specs.Outcome.{outcomeNumber}
 use Rattle.command.specs.Report.{wordsRead}
-use Rattle.command.proofs.Reports as work
-use Rattle.device.specs.declared.state.Device.{Device}
+use Rattle.work.proofs.Reports as work
+use Rattle.state.specs.declared.device.Device.{Device}
 use Rattle.device.specs.declared.turn.Report.{Report}
-use Rattle.device.specs.State.{ringOf}
-use Rattle.device.specs.Refusal.{refusalNumber}
+use Rattle.state.specs.Device.{ringOf}
+use Rattle.state.specs.Refusal.{refusalNumber}
 use Rattle.device.specs.Answer.{answerNumber, valuesOf, makingNumber}
 use Rattle.device.specs.Fresh.{freshOf}
 use Rattle.device.specs.Turn.{Call, unchanged, reportOf, finished, servedOf, turnOf}

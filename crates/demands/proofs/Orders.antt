@@ -10,7 +10,7 @@ use native.Mathlib.Omega.{arith}
 use lib.Dec.{eqb}
 use borrow.Author.Tests.{eq-eqb, ne-eqb}
 use Rattle.command.specs.declared.header.Command.{Command}
-use Rattle.command.specs.Choice.{either}
+use Rattle.words.specs.Choice.{either}
 use Rattle.command.proofs.Sizes.{size-least}
 use Rattle.device.specs.Left.{sumOf}
 use Rattle.demands.specs.Idle.{placeOf, nth, isEmitting, emitsIn, countOf, oneMore}

@@ -10,20 +10,20 @@ use lib.Seq.{getD-set-same}
 use borrow.Author.Tests.{eqb-true, eq-eqb, leb-true, le-leb, ltb-true, lt-ltb}
 use Rattle.command.specs.declared.header.Command.{Command}
 use Rattle.command.specs.declared.outcome.Outcome.{Outcome}
-use Rattle.command.specs.declared.work.Performed.{Performed}
-use Rattle.command.specs.Choice.{either}
+use Rattle.work.specs.declared.work.Performed.{Performed}
+use Rattle.words.specs.Choice.{either}
 use Rattle.command.specs.Flags.{irqBit, emitBit}
 use Rattle.command.specs.Opcode.{readMem}
 use Rattle.command.specs.Outcome.{outcomeNumber, isDone}
 use Rattle.command.specs.Report.{emits, interrupts, wordsRead}
-use Rattle.command.specs.Work.{heldBy}
-use Rattle.command.proofs.Choices.{both-left, both-right}
-use Rattle.device.specs.declared.state.Device.{Device}
+use Rattle.work.specs.Work.{heldBy}
+use Rattle.words.proofs.Choices.{both-left, both-right}
+use Rattle.state.specs.declared.device.Device.{Device}
 use Rattle.device.specs.declared.turn.Report.{Report}
 use Rattle.device.specs.declared.turn.Answer.the-variants.{Served}
-use Rattle.device.specs.State.{Shaped, SlotsFit, ringOf, slotOf}
+use Rattle.state.specs.Device.{Shaped, SlotsFit, ringOf, slotOf}
 use Rattle.device.specs.Answer.{Values, valuesOf}
-use Rattle.device.specs.Ready.{readyAt, pickOf}
+use Rattle.state.specs.Ready.{readyAt, pickOf}
 use Rattle.device.specs.Turn.{Call, fenceOf, ringAfter, deviceAfter, finished, servedOf}
 use Rattle.device.proofs.Verdicts.{found}
 use Rattle.device.proofs.BytesLeft.{served-ring, other-ring}

@@ -4,11 +4,11 @@ use mathlib.Core.Path.{_≡_, refl, ap}
 use Prim.Native.Nat.{ℕ, _+_}
 use native.Mathlib.Omega.{arith}
 use lib.Dec.{eqb}
-use Rattle.command.specs.Choice.{either}
-use Rattle.device.specs.declared.state.Device.{Device}
-use Rattle.device.specs.declared.refusal.Verdict.the-variants.{Sound}
-use Rattle.device.specs.declared.ready.Picked.the-variants.{Ring as RingOf}
-use Rattle.device.specs.State.{Shaped, ringOf}
+use Rattle.words.specs.Choice.{either}
+use Rattle.state.specs.declared.device.Device.{Device}
+use Rattle.state.specs.declared.refusal.Verdict.the-variants.{Sound}
+use Rattle.state.specs.declared.ready.Picked.the-variants.{Ring as RingOf}
+use Rattle.state.specs.Device.{Shaped, ringOf}
 use Rattle.device.specs.Answer.{answerNumber, valuesOf}
 use Rattle.device.specs.Turn.{Call, ringAfter, finished, reportOf, servedOf, verdictOn}
 use Rattle.device.proofs.BytesLeft.{served-ring, other-ring}

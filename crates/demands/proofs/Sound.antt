@@ -9,24 +9,24 @@ use lib.Dec.{leb, lit≤, lit<}
 use lib.ListN.{length}
 use borrow.Author.Tests.{le-leb, lt-leb}
 use Rattle.memory.proofs.Window.{window-length}
-use Rattle.command.specs.Choice.{either}
+use Rattle.words.specs.Choice.{either}
 use Rattle.command.specs.Outcome.{outcomeNumber, isDone}
 use Rattle.command.specs.Frame.{heldFault}
-use Rattle.command.proofs.Choices.{both-right, either-has}
-use Rattle.command.proofs.Kept.{performed-frame}
-use Rattle.device.specs.declared.state.Window.{Window}
-use Rattle.device.specs.declared.state.Device.{Device}
-use Rattle.device.specs.declared.refusal.Refusal.{Refusal}
-use Rattle.device.specs.declared.refusal.Verdict.{Verdict}
-use Rattle.device.specs.declared.refusal.Verdict.the-variants.{Sound, Refused}
-use Rattle.device.specs.declared.ready.Picked.the-variants.{Ring as RingOf}
+use Rattle.words.proofs.Choices.{both-right, either-has}
+use Rattle.work.proofs.Kept.{performed-frame}
+use Rattle.state.specs.declared.device.Window.{Window}
+use Rattle.state.specs.declared.device.Device.{Device}
+use Rattle.state.specs.declared.refusal.Refusal.{Refusal}
+use Rattle.state.specs.declared.refusal.Verdict.{Verdict}
+use Rattle.state.specs.declared.refusal.Verdict.the-variants.{Sound, Refused}
+use Rattle.state.specs.declared.ready.Picked.the-variants.{Ring as RingOf}
 use Rattle.device.specs.declared.fresh.Fresh.{Fresh}
-use Rattle.device.specs.State.{emptyWindow, freshDevice, ringOf, slotOf}
+use Rattle.state.specs.Device.{emptyWindow, freshDevice, ringOf, slotOf}
 use Rattle.device.specs.Answer.{answerNumber, makingNumber}
-use Rattle.device.specs.Refusal.{refusalNumber, windowFits, memoryFits, windowsFit, ringSound, stateSound, verdictOf}
+use Rattle.state.specs.Refusal.{refusalNumber, windowFits, memoryFits, windowsFit, ringSound, stateSound, verdictOf}
 use Rattle.device.specs.Fresh.{freshOf}
 use Rattle.device.specs.Turn.{Call, unchanged, ringAfter, reportOf, finished, servedOf, judgedOf, verdictOn, turnOf}
-use Rattle.device.proofs.Seeks.{next-below}
+use Rattle.state.proofs.Seeks.{next-below}
 use Rattle.device.proofs.Verdicts.{all-four}
 use Rattle.device.proofs.Wholes.{whole-inside}
 use Rattle.demands.specs.Calls.{ringIn, headIn, answerOf, leftBy, none, more}

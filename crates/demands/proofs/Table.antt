@@ -14,28 +14,28 @@ use Rattle.kernel.specs.Step.{goesOn, applied, executed}
 use Rattle.kernel.proofs.Examples as kernel
 use Rattle.kernel.specs.Examples.{afterWord}
 use Rattle.demands.specs.Table.{colored, holding, vector, Table}
-use Rattle.device.specs.State.{freshDevice, ringOf, slotOf, withRing, withSlots, withMarker}
-use Rattle.device.specs.Slots.{emittedIn}
-use Rattle.device.specs.Refusal.{windowFits, memoryFits, windowsFit, ringSound, stateSound, ringFits, ringsFit, verdictOf}
-use Rattle.device.specs.Ready.{readyWith, readyWhere, readyAt, nextRing, seek, bytesOfRing, pickOf}
+use Rattle.state.specs.Device.{freshDevice, ringOf, slotOf, withRing, withSlots, withMarker}
+use Rattle.state.specs.Slots.{emittedIn}
+use Rattle.state.specs.Refusal.{windowFits, memoryFits, windowsFit, ringSound, stateSound, ringFits, ringsFit, verdictOf}
+use Rattle.state.specs.Ready.{readyWith, readyWhere, readyAt, nextRing, seek, bytesOfRing, pickOf}
 use Rattle.device.specs.Answer.{answerNumber, valuesOf}
 use Rattle.device.specs.Turn.{unchanged, fenceOf, emitTo, ringAfter, deviceAfter, reportOf, finished, servedOf, pickedOf, judgedOf, verdictOn, turnOf}
-use Rattle.command.specs.Choice.{either}
+use Rattle.words.specs.Choice.{either}
 use Rattle.command.specs.Table.{rowOf}
 use Rattle.command.specs.Header.{waitSize, payloadSize, targetAt, commandAt, isWhole}
 use Rattle.command.specs.Outcome.{outcomeNumber}
 use Rattle.command.specs.Faults.{unknownOpcode, wrongPayloadBit, noSuchSlot, headerFault}
 use Rattle.command.specs.Frame.{frameMisaligned, frameUnfit, frameFault, heldFault, strideOf}
-use Rattle.command.specs.Shape.{isRectangle, sizeOf, widthOf, heightOf, tooNarrow, endOf}
-use Rattle.command.specs.Checks.{slotFault, misaligned, unframed, outside, unfitFrame, outOfRange, unfitDispatch, checkOf}
+use Rattle.work.specs.Shape.{isRectangle, sizeOf, widthOf, heightOf, tooNarrow, endOf}
+use Rattle.work.specs.Checks.{slotFault, misaligned, unframed, outside, unfitFrame, outOfRange, unfitDispatch, checkOf}
 use Rattle.command.specs.Report.{emits, interrupts, wordsRead}
-use Rattle.command.specs.Work.{leaves, ranOutcome, dispatchedBy, afterDispatch, heldBy, workOf}
-use Rattle.command.specs.Perform.{orElse, faultOf, guarded, performedOf}
+use Rattle.work.specs.Work.{leaves, ranOutcome, dispatchedBy, afterDispatch, heldBy, workOf}
+use Rattle.work.specs.Perform.{orElse, faultOf, guarded, performedOf}
 use Rattle.memory.specs.After.{after}
 use Rattle.memory.specs.Place.{halfAt, wordAt, withByte, withHalf, withWord}
 use Rattle.memory.specs.Rectangle.{rectangleEnd, filledRow, filled}
 use Rattle.memory.specs.Window.{windowOf, putBack}
-use Rattle.kernel.specs.Pack.{kernelCount, firstWord, kernelWords, codeCount, liesInCode, allLie, soundPack, kernelOf}
+use Rattle.pack.specs.Kernels.{kernelCount, firstWord, kernelWords, codeCount, liesInCode, allLie, soundPack, kernelOf}
 
 vadd : (vector 3 (afterWord 0x0020A1AF (holding 0x010000FF 0x01000001)) ≡ broadcast 0x02000000)
     × (vector 3 (afterWord 0x002091AF (holding 0x010000FF 0x01000001)) ≡ broadcast 0x02000100)

@@ -6,20 +6,20 @@ use native.Mathlib.Omega.{arith}
 use lib.ListN.{length}
 use mathlib.Core.Bool.{false}
 use Rattle.memory.specs.Window.{windowOf}
-use Rattle.command.specs.Perform.{performedOf}
-use Rattle.command.specs.Work.{Left}
+use Rattle.work.specs.Perform.{performedOf}
+use Rattle.work.specs.Work.{Left}
 use Rattle.command.specs.Report.{emits, interrupts, wordsRead}
-use Rattle.device.specs.declared.state.Device.{Device}
-use Rattle.device.specs.declared.refusal.Refusal.{Refusal}
-use Rattle.device.specs.declared.refusal.Verdict.{Verdict}
-use Rattle.device.specs.declared.refusal.Verdict.the-variants.{Sound, Refused}
-use Rattle.device.specs.declared.ready.Picked.{Picked}
-use Rattle.device.specs.declared.ready.Picked.the-variants.{Ring as RingOf, Nobody}
+use Rattle.state.specs.declared.device.Device.{Device}
+use Rattle.state.specs.declared.refusal.Refusal.{Refusal}
+use Rattle.state.specs.declared.refusal.Verdict.{Verdict}
+use Rattle.state.specs.declared.refusal.Verdict.the-variants.{Sound, Refused}
+use Rattle.state.specs.declared.ready.Picked.{Picked}
+use Rattle.state.specs.declared.ready.Picked.the-variants.{Ring as RingOf, Nobody}
 use Rattle.device.specs.declared.turn.Report.{Report}
 use Rattle.device.specs.declared.turn.Answer.{Answer}
 use Rattle.device.specs.declared.turn.Answer.the-variants.{Refused as RefusedFor, Idle, Served}
-use Rattle.device.specs.State.{ringOf, slotOf}
-use Rattle.device.specs.Ready.{pickOf}
+use Rattle.state.specs.Device.{ringOf, slotOf}
+use Rattle.state.specs.Ready.{pickOf}
 use Rattle.device.specs.Answer.{answerNumber, valuesOf}
 use Rattle.device.specs.Turn.{Call, After, unchanged, fenceOf, reportOf, finished, servedOf, pickedOf, judgedOf, verdictOn, turnOf, Servable}
 use Rattle.device.proofs.Verdicts.{steady, servable}

@@ -6,9 +6,9 @@ use Prim.Native.Nat.{ℕ, zero, suc, _≤_, _<_}
 use native.Mathlib.Nat.{not-suc-le-zero, le-of-suc-le-suc}
 use native.Mathlib.Omega.{arith}
 use lib.Dec.{lit<}
-use Rattle.command.specs.Choice.{either}
-use Rattle.device.specs.declared.ready.Picked.the-variants.{Ring}
-use Rattle.device.specs.Ready.{nextRing, seek}
+use Rattle.words.specs.Choice.{either}
+use Rattle.state.specs.declared.ready.Picked.the-variants.{Ring}
+use Rattle.state.specs.Ready.{nextRing, seek}
 use Rattle.device.proofs.Verdicts.{each-of-four}
 
 -- j rings further than m

@@ -12,20 +12,20 @@ use Rattle.memory.proofs.Others.{transferred-other}
 use Rattle.command.specs.declared.header.Command.{Command}
 use Rattle.command.specs.declared.frame.Frame.{Frame}
 use Rattle.command.specs.declared.outcome.Outcome.{Outcome}
-use Rattle.command.specs.Choice.{either}
+use Rattle.words.specs.Choice.{either}
 use Rattle.command.specs.Flags.{emitBit}
 use Rattle.command.specs.Faults.{headerFault}
-use Rattle.command.specs.Checks.{slotFault}
+use Rattle.work.specs.Checks.{slotFault}
 use Rattle.command.specs.Outcome.{outcomeNumber, isDone}
 use Rattle.command.specs.Opcode.{readMem}
 use Rattle.command.specs.Report.{emits, wordsRead}
-use Rattle.command.specs.Work.{Left, leaves, afterDispatch, dispatchedBy, heldBy}
-use Rattle.command.specs.Perform.{performedOf}
-use Rattle.command.proofs.Choices.{both-left, both-right}
-use Rattle.command.proofs.Performs.{performed-has}
-use Rattle.command.proofs.Works.{work-has, work-set}
-use Rattle.command.proofs.Kept.{performed-lengths}
-use Rattle.command.proofs.Reports.{emits-when}
+use Rattle.work.specs.Work.{Left, leaves, afterDispatch, dispatchedBy, heldBy}
+use Rattle.work.specs.Perform.{performedOf}
+use Rattle.words.proofs.Choices.{both-left, both-right}
+use Rattle.work.proofs.Performs.{performed-has}
+use Rattle.work.proofs.Works.{work-has, work-set}
+use Rattle.work.proofs.Kept.{performed-lengths}
+use Rattle.work.proofs.Reports.{emits-when}
 use Rattle.demands.specs.Idle.{isEmitting}
 use Rattle.demands.specs.Keeps.{PipeKept}
 use Rattle.demands.specs.Reports.{SetsFrame}

@@ -5,11 +5,11 @@ use mathlib.Core.Bool.{_&&_}
 use mathlib.Core.List.{List, [], _∷_}
 use lib.Dec.{eqb}
 use lib.ListN.{length}
-use Rattle.command.specs.Choice.{either}
-use Rattle.device.specs.declared.state.Window.{Window}
-use Rattle.device.specs.declared.state.Device.{Device}
+use Rattle.words.specs.Choice.{either}
+use Rattle.state.specs.declared.device.Window.{Window}
+use Rattle.state.specs.declared.device.Device.{Device}
 use Rattle.device.specs.declared.turn.Answer.{Answer}
-use Rattle.device.specs.State.{Shaped, freshDevice}
+use Rattle.state.specs.Device.{Shaped, freshDevice}
 use Rattle.device.specs.Answer.{answerNumber, valuesOf}
 use Rattle.device.specs.Turn.{Call}
 use Rattle.device.specs.Left.{leftOf, sumOf}

@@ -5,12 +5,12 @@ use mathlib.Core.Bool.{Bool, false}
 use mathlib.Core.List.{List, [], _∷_}
 use lib.Dec.{leb}
 use Rattle.command.specs.declared.header.Command.{Command}
-use Rattle.command.specs.Choice.{either}
+use Rattle.words.specs.Choice.{either}
 use Rattle.command.specs.Header.{commandAt}
-use Rattle.device.specs.declared.state.Device.{Device}
+use Rattle.state.specs.declared.device.Device.{Device}
 use Rattle.device.specs.declared.turn.Answer.{Answer}
-use Rattle.device.specs.State.{ringOf}
-use Rattle.device.specs.Ready.{bytesOfRing}
+use Rattle.state.specs.Device.{ringOf}
+use Rattle.state.specs.Ready.{bytesOfRing}
 use Rattle.device.specs.Turn.{Call, turnOf}
 use Rattle.device.specs.Answer.{Values, answerNumber, valuesOf}
 

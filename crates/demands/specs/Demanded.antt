@@ -1,7 +1,7 @@
 -- What is demanded of the turns of a device, with nothing asked of it: the contract of `of_every_device` says it of every
 -- `Device`. What is said from fresh (`Idle.IdleIsDone` and its like) asks nothing either.
 use Prim.Native.Nat.{ℕ}
-use Rattle.device.specs.declared.state.Device.{Device}
+use Rattle.state.specs.declared.device.Device.{Device}
 use Rattle.device.specs.Turn.{Call}
 use Rattle.demands.specs.Keeps.{Keeps}
 use Rattle.demands.specs.Sound.{StaysSound}

@@ -20,11 +20,11 @@ use Rattle.instruction.specs.declared.effect.Stop.the-variants.{NotListed, OffT
 use Rattle.instruction.specs.declared.effect.Effect.the-variants.{Store, StoreQuad, Go, Stop as StopFor}
 use Rattle.instruction.specs.Decode.{opOf, decoded}
 use Rattle.instruction.specs.Effect.{effectOf}
-use Rattle.kernel.specs.declared.pack.Kernel.{Kernel}
+use Rattle.pack.specs.declared.kernels.Kernel.{Kernel}
 use Rattle.kernel.specs.declared.thread.Thread.{Thread}
 use Rattle.kernel.specs.declared.step.Progress.the-variants.{Running, Ended, Stopped}
 use Rattle.kernel.specs.declared.dispatch.Ran.the-variants.{Stopped as StoppedFor}
-use Rattle.kernel.specs.Pack.{kernelOf, codeWord}
+use Rattle.pack.specs.Kernels.{kernelOf, codeWord}
 use Rattle.kernel.specs.Registers.{scalarOf}
 use Rattle.kernel.specs.Thread.{started}
 use Rattle.kernel.specs.Step.{State, stops, ends, lands, applied, executed, stepOf}
@@ -32,10 +32,10 @@ use Rattle.kernel.specs.Run.{running, stepsOf, runOf}
 use Rattle.kernel.specs.Dispatch.{Dispatched, shown, going, threadOf, threadsOf}
 use Rattle.command.specs.Opcode.{dispatch1D}
 use Rattle.command.specs.Outcome.{outcomeNumber, isDone}
-use Rattle.command.specs.Work.{ranOutcome}
-use Rattle.command.specs.Perform.{faultOf}
-use Rattle.device.specs.declared.state.Device.{Device}
-use Rattle.device.specs.State.{ringOf, slotOf}
+use Rattle.work.specs.Work.{ranOutcome}
+use Rattle.work.specs.Perform.{faultOf}
+use Rattle.state.specs.declared.device.Device.{Device}
+use Rattle.state.specs.Device.{ringOf, slotOf}
 use Rattle.device.specs.Turn.{Call, turnOf}
 use Rattle.demands.specs.Calls.{headIn, numberIn, valuesIn, ringServed}
 

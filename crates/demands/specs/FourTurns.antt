@@ -5,9 +5,9 @@ use mathlib.Core.Bool.{true}
 use mathlib.Core.List.{List}
 use lib.ListN.{length, getD}
 use Rattle.command.specs.Header.{commandAt}
-use Rattle.device.specs.declared.state.Device.{Device}
-use Rattle.device.specs.State.{ringOf, SlotsFit}
-use Rattle.device.specs.Ready.{readyAt}
+use Rattle.state.specs.declared.device.Device.{Device}
+use Rattle.state.specs.Device.{ringOf, SlotsFit}
+use Rattle.state.specs.Ready.{readyAt}
 use Rattle.device.specs.Turn.{Call}
 use Rattle.demands.specs.Calls.{ringIn, heard, EachHeard, Serves}
 

@@ -5,15 +5,15 @@ use mathlib.Core.Bool.{Bool, true, _&&_}
 use mathlib.Core.List.{List, [], _∷_}
 use lib.Dec.{eqb}
 use Rattle.command.specs.declared.header.Command.{Command}
-use Rattle.command.specs.Choice.{either}
+use Rattle.words.specs.Choice.{either}
 use Rattle.command.specs.Flags.{emitBit}
 use Rattle.command.specs.Faults.{headerFault}
 use Rattle.command.specs.Header.{commandAt, isWhole}
 use Rattle.command.specs.Outcome.{isDone}
-use Rattle.device.specs.declared.state.Window.{Window}
-use Rattle.device.specs.declared.state.Device.{Device}
-use Rattle.device.specs.State.{freshDevice}
-use Rattle.device.specs.Ready.{readyWith}
+use Rattle.state.specs.declared.device.Window.{Window}
+use Rattle.state.specs.declared.device.Device.{Device}
+use Rattle.state.specs.Device.{freshDevice}
+use Rattle.state.specs.Ready.{readyWith}
 use Rattle.device.specs.Turn.{Call}
 use Rattle.device.specs.Left.{sumOf}
 use Rattle.demands.specs.Calls.{leftBy, numberIn, EachHeard}

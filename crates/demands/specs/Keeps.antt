@@ -5,11 +5,11 @@ use mathlib.Core.Bool.{true, false}
 use mathlib.Core.List.{List}
 use mathlib.Core.Logic.{_⊎_}
 use lib.ListN.{length, getD}
-use Rattle.device.specs.declared.state.Window.{Window}
-use Rattle.device.specs.declared.state.Device.{Device}
+use Rattle.state.specs.declared.device.Window.{Window}
+use Rattle.state.specs.declared.device.Device.{Device}
 use Rattle.device.specs.declared.fresh.Fresh.{Fresh}
-use Rattle.device.specs.State.{emptyWindow, freshDevice, ringOf}
-use Rattle.device.specs.Refusal.{memoryFits}
+use Rattle.state.specs.Device.{emptyWindow, freshDevice, ringOf}
+use Rattle.state.specs.Refusal.{memoryFits}
 use Rattle.device.specs.Answer.{noValues, valuesOf, makingNumber}
 use Rattle.device.specs.Fresh.{freshOf}
 use Rattle.device.specs.Turn.{Call, After, turnOf}

@@ -6,8 +6,8 @@ use Rattle.kernel.specs.declared.step.Stepped.{Stepped}
 use Rattle.kernel.specs.declared.dispatch.Ran.{Ran}
 use Rattle.kernel.specs.Step.{State, Shows as ShowsStep}
 use Rattle.kernel.specs.Dispatch.{Dispatched, ShowsRan}
-use Rattle.command.specs.declared.work.Performed.{Performed}
-use Rattle.command.specs.Work.{Left, Shows as ShowsWork}
+use Rattle.work.specs.declared.work.Performed.{Performed}
+use Rattle.work.specs.Work.{Left, Shows as ShowsWork}
 use Rattle.device.specs.declared.turn.Turned.{Turned}
 use Rattle.device.specs.Turn.{After, Shows as ShowsTurn}
 

@@ -6,11 +6,11 @@ use mathlib.Core.Logic.{_⊎_, _↔_}
 use Rattle.command.specs.declared.header.Command.{Command}
 use Rattle.command.specs.Flags.{irqBit, emitBit}
 use Rattle.command.specs.Opcode.{readMem, setFb}
-use Rattle.command.specs.Work.{heldBy}
-use Rattle.device.specs.declared.state.Device.{Device}
-use Rattle.device.specs.State.{Shaped, SlotsFit, ringOf, slotOf}
+use Rattle.work.specs.Work.{heldBy}
+use Rattle.state.specs.declared.device.Device.{Device}
+use Rattle.state.specs.Device.{Shaped, SlotsFit, ringOf, slotOf}
 use Rattle.device.specs.Answer.{Values}
-use Rattle.device.specs.Ready.{readyAt, nextRing}
+use Rattle.state.specs.Ready.{readyAt, nextRing}
 use Rattle.device.specs.Turn.{Call}
 use Rattle.demands.specs.Calls.{ringIn, headIn, leftBy, numberIn, valuesIn}
 

@@ -4,12 +4,12 @@ use mathlib.Core.Path.{_≡_}
 use mathlib.Core.Bool.{Bool, true, false}
 use mathlib.Core.List.{List}
 use lib.ListN.{length}
-use Rattle.kernel.specs.Pack.{soundPack}
-use Rattle.device.specs.declared.state.Window.{Window}
-use Rattle.device.specs.declared.state.Device.{Device}
-use Rattle.device.specs.State.{ringOf}
+use Rattle.pack.specs.Kernels.{soundPack}
+use Rattle.state.specs.declared.device.Window.{Window}
+use Rattle.state.specs.declared.device.Device.{Device}
+use Rattle.state.specs.Device.{ringOf}
 use Rattle.device.specs.Answer.{makingNumber}
-use Rattle.device.specs.Refusal.{windowsFit, stateSound, ringsFit}
+use Rattle.state.specs.Refusal.{windowsFit, stateSound, ringsFit}
 use Rattle.device.specs.Fresh.{freshOf}
 use Rattle.device.specs.Turn.{Call}
 use Rattle.demands.specs.Calls.{leftBy, numberIn, EachCall}

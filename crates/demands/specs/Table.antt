@@ -18,9 +18,9 @@ use Rattle.kernel.specs.Run.{stepLimit}
 use Rattle.kernel.specs.Examples.{freshThread, afterWord, scalar, packOf}
 use Rattle.command.specs.declared.frame.Frame.the-variants.{Held}
 use Rattle.command.specs.Outcome.{outcomeNumber}
-use Rattle.command.specs.Work.{ranOutcome}
-use Rattle.device.specs.declared.state.Device.{Device}
-use Rattle.device.specs.State.{emptyWindow, freshRing, deviceOf}
+use Rattle.work.specs.Work.{ranOutcome}
+use Rattle.state.specs.declared.device.Device.{Device}
+use Rattle.state.specs.Device.{emptyWindow, freshRing, deviceOf}
 use Rattle.device.specs.Answer.{answerNumber, noValues, valuesOf}
 use Rattle.device.specs.Turn.{Call, callOf, After, turnOf}
 use Rattle.demands.specs.Calls.{ServesRing}

@@ -2,7 +2,7 @@
 // whose contract says of every device what the theorems say of one of the right form.
 ghost use mathlib.Core.Path.{_≡_};
 ghost use Rattle.demands.specs.Demanded.{Demanded};
-use device::state::Device;
+use state::device::Device;
 
 // Hands the device back: what is demanded of its turns, whatever it is, is this contract.
 pub fn of_every_device(d: Device) -> Device

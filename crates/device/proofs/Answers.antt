@@ -6,12 +6,12 @@ use Prim.Native.Nat.{_≤_}
 use native.Mathlib.Omega.{arith}
 use lib.Dec.{eqb}
 use borrow.Author.Tests.{ne-eqb}
-use Rattle.device.specs.declared.refusal.Refusal.{Refusal}
-use Rattle.device.specs.declared.refusal.Refusal.the-variants.{Memory, State, Rings, Pipe, Pack}
+use Rattle.state.specs.declared.refusal.Refusal.{Refusal}
+use Rattle.state.specs.declared.refusal.Refusal.the-variants.{Memory, State, Rings, Pipe, Pack}
 use Rattle.device.specs.declared.turn.Report.{Report}
 use Rattle.device.specs.declared.turn.Answer.{Answer}
 use Rattle.device.specs.declared.turn.Answer.the-variants.{Refused, Idle, Served}
-use Rattle.device.specs.Refusal.{refusalNumber}
+use Rattle.state.specs.Refusal.{refusalNumber}
 use Rattle.device.specs.Answer.{answerNumber}
 
 pub refusal-least : (why : Refusal) → 101 ≤ refusalNumber why

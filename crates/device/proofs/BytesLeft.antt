@@ -11,19 +11,19 @@ use lib.Dec.{eqb}
 use borrow.Author.Tests.{eqb-true, eqb-false}
 use native.Mathlib.Nat.{not-suc-le-zero}
 use Rattle.command.specs.declared.header.Command.{Command}
-use Rattle.command.specs.declared.work.Performed.{Performed}
-use Rattle.command.specs.Choice.{either}
+use Rattle.work.specs.declared.work.Performed.{Performed}
+use Rattle.words.specs.Choice.{either}
 use Rattle.command.specs.Header.{commandAt}
 use Rattle.command.proofs.Sizes.{size-least}
-use Rattle.device.specs.declared.state.Device.{Device}
-use Rattle.device.specs.declared.refusal.Verdict.{Verdict}
-use Rattle.device.specs.declared.refusal.Verdict.the-variants.{Sound, Refused}
-use Rattle.device.specs.declared.ready.Picked.{Picked}
-use Rattle.device.specs.declared.ready.Picked.the-variants.{Ring as Picks, Nobody}
+use Rattle.state.specs.declared.device.Device.{Device}
+use Rattle.state.specs.declared.refusal.Verdict.{Verdict}
+use Rattle.state.specs.declared.refusal.Verdict.the-variants.{Sound, Refused}
+use Rattle.state.specs.declared.ready.Picked.{Picked}
+use Rattle.state.specs.declared.ready.Picked.the-variants.{Ring as Picks, Nobody}
 use Rattle.device.specs.declared.turn.Report.{Report}
 use Rattle.device.specs.declared.turn.Answer.the-variants.{Served}
-use Rattle.device.specs.State.{Shaped, ringOf, withRing, withSlots, withMarker}
-use Rattle.device.specs.Ready.{bytesOfRing, pickOf}
+use Rattle.state.specs.Device.{Shaped, ringOf, withRing, withSlots, withMarker}
+use Rattle.state.specs.Ready.{bytesOfRing, pickOf}
 use Rattle.device.specs.Turn.{Call, unchanged, emitTo, ringAfter, deviceAfter, finished, servedOf, pickedOf, judgedOf, verdictOn, turnOf}
 use Rattle.device.specs.Left.{leftOf, sumOf, bytesLeft}
 use Rattle.device.proofs.Verdicts.{servable}

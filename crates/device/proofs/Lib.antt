@@ -1,4 +1,3 @@
-pub mod Seeks
 pub mod Wholes
 pub mod Verdicts
 pub mod Windows

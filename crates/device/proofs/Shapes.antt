@@ -7,21 +7,21 @@ use Prim.Native.Nat.{ℕ, zero, suc, _^_, _<_}
 use native.Mathlib.Omega.{arith}
 use lib.ListN.{getD, set, length-set}
 use Rattle.command.specs.declared.header.Command.{Command}
-use Rattle.command.specs.declared.work.Performed.{Performed}
-use Rattle.command.specs.Choice.{either}
-use Rattle.device.specs.declared.state.Device.{Device}
-use Rattle.device.specs.declared.state.Window.{Window}
-use Rattle.device.specs.declared.refusal.Verdict.{Verdict}
-use Rattle.device.specs.declared.refusal.Verdict.the-variants.{Sound, Refused}
-use Rattle.device.specs.declared.ready.Picked.{Picked}
-use Rattle.device.specs.declared.ready.Picked.the-variants.{Ring, Nobody}
-use Rattle.device.specs.declared.refusal.Refusal.the-variants.{Memory}
+use Rattle.work.specs.declared.work.Performed.{Performed}
+use Rattle.words.specs.Choice.{either}
+use Rattle.state.specs.declared.device.Device.{Device}
+use Rattle.state.specs.declared.device.Window.{Window}
+use Rattle.state.specs.declared.refusal.Verdict.{Verdict}
+use Rattle.state.specs.declared.refusal.Verdict.the-variants.{Sound, Refused}
+use Rattle.state.specs.declared.ready.Picked.{Picked}
+use Rattle.state.specs.declared.ready.Picked.the-variants.{Ring, Nobody}
+use Rattle.state.specs.declared.refusal.Refusal.the-variants.{Memory}
 use Rattle.device.specs.declared.fresh.Making.the-variants.{Made, Refused as Refuses}
 use Rattle.device.specs.declared.fresh.Fresh.{Fresh}
-use Rattle.device.specs.Slots.{emitted, emittedIn}
-use Rattle.device.specs.State.{Shaped, SlotsFit, slotOf, emptyWindow, withRing, withSlots, withMarker, freshDevice}
+use Rattle.state.specs.Slots.{emitted, emittedIn}
+use Rattle.state.specs.Device.{Shaped, SlotsFit, slotOf, emptyWindow, withRing, withSlots, withMarker, freshDevice}
 use Rattle.device.specs.Fresh.{freshOf}
-use Rattle.device.specs.Refusal.{memoryFits}
+use Rattle.state.specs.Refusal.{memoryFits}
 use Rattle.device.specs.Turn.{Call, emitTo, deviceAfter, finished, servedOf, pickedOf, judgedOf, unchanged, turnOf, verdictOn}
 
 after-emit : (b : Bool) (d : Device) (n : ℕ) → Shaped d → Shaped (emitTo b d n)

@@ -9,20 +9,20 @@ use native.Mathlib.Nat.{le-of-suc-le-suc, not-suc-le-zero}
 use lib.ListN.{length}
 use lib.Dec.{leb, eqb}
 use borrow.Author.Tests.{leb-true}
-use Rattle.command.specs.Choice.{either}
-use Rattle.command.proofs.Choices.{both-left, both-right}
-use Rattle.kernel.specs.Pack.{soundPack}
-use Rattle.device.specs.declared.state.Device.{Device}
-use Rattle.device.specs.declared.refusal.Refusal.{Refusal}
-use Rattle.device.specs.declared.refusal.Verdict.{Verdict}
-use Rattle.device.specs.declared.refusal.Verdict.the-variants.{Sound, Refused}
-use Rattle.device.specs.declared.ready.Picked.{Picked}
-use Rattle.device.specs.declared.ready.Picked.the-variants.{Ring}
-use Rattle.device.specs.State.{ringOf}
-use Rattle.device.specs.Refusal.{windowFits, memoryFits, windowsFit, ringSound, stateSound, ringFits, ringsFit, verdictOf}
-use Rattle.device.specs.Ready.{readyWhere, readyAt, nextRing, seek, bytesOfRing, pickOf, Steady}
+use Rattle.words.specs.Choice.{either}
+use Rattle.words.proofs.Choices.{both-left, both-right}
+use Rattle.pack.specs.Kernels.{soundPack}
+use Rattle.state.specs.declared.device.Device.{Device}
+use Rattle.state.specs.declared.refusal.Refusal.{Refusal}
+use Rattle.state.specs.declared.refusal.Verdict.{Verdict}
+use Rattle.state.specs.declared.refusal.Verdict.the-variants.{Sound, Refused}
+use Rattle.state.specs.declared.ready.Picked.{Picked}
+use Rattle.state.specs.declared.ready.Picked.the-variants.{Ring}
+use Rattle.state.specs.Device.{ringOf}
+use Rattle.state.specs.Refusal.{windowFits, memoryFits, windowsFit, ringSound, stateSound, ringFits, ringsFit, verdictOf}
+use Rattle.state.specs.Ready.{readyWhere, readyAt, nextRing, seek, bytesOfRing, pickOf, Steady}
 use Rattle.device.specs.Turn.{Servable}
-use Rattle.device.proofs.Seeks.{next-below}
+use Rattle.state.proofs.Seeks.{next-below}
 
 -- a test that a sound call has passed
 passed : (b : Bool) (x : Verdict) (why : Refusal) → either b x (Refused why) ≡ Sound → (b ≡ true) × (x ≡ Sound)

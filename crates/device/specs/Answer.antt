@@ -6,7 +6,7 @@ use Rattle.device.specs.declared.fresh.Making.{Making}
 use Rattle.device.specs.declared.fresh.Making.the-variants.{Made, Refused as RefusedToMake}
 use Rattle.device.specs.declared.turn.Answer.{Answer}
 use Rattle.device.specs.declared.turn.Answer.the-variants.{Refused, Idle, Served}
-use Rattle.device.specs.Refusal.{refusalNumber}
+use Rattle.state.specs.Refusal.{refusalNumber}
 
 -- a turn's number: 0 served, 1 idle, or the refusal's
 unfoldable pub answerNumber : Answer → ℕ

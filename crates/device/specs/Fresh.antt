@@ -1,12 +1,12 @@
 -- Making a fresh device can only give 101, and with it comes a fresh device of four empty windows at 0.
 use Prim.Native.Nat.{ℕ}
-use Rattle.command.specs.Choice.{either}
-use Rattle.device.specs.declared.state.Window.{Window}
-use Rattle.device.specs.declared.refusal.Refusal.the-variants.{Memory}
+use Rattle.words.specs.Choice.{either}
+use Rattle.state.specs.declared.device.Window.{Window}
+use Rattle.state.specs.declared.refusal.Refusal.the-variants.{Memory}
 use Rattle.device.specs.declared.fresh.Making.the-variants.{Made, Refused}
 use Rattle.device.specs.declared.fresh.Fresh.{Fresh}
-use Rattle.device.specs.State.{emptyWindow, freshDevice}
-use Rattle.device.specs.Refusal.{memoryFits}
+use Rattle.state.specs.Device.{emptyWindow, freshDevice}
+use Rattle.state.specs.Refusal.{memoryFits}
 
 unfoldable pub freshOf : ℕ → Window → Window → Window → Window → Fresh
 freshOf memory w0 w1 w2 w3 =

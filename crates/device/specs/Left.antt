@@ -2,9 +2,9 @@
 use Prim.Native.Nat.{ℕ, zero, suc, _+_, _-_}
 use mathlib.Core.List.{List}
 use lib.ListN.{length}
-use Rattle.device.specs.declared.state.Device.{Device}
-use Rattle.device.specs.State.{ringOf}
-use Rattle.device.specs.Ready.{bytesOfRing}
+use Rattle.state.specs.declared.device.Device.{Device}
+use Rattle.state.specs.Device.{ringOf}
+use Rattle.state.specs.Ready.{bytesOfRing}
 use Rattle.device.specs.Turn.{Call}
 
 -- the bytes of a ring that stand after its cursor

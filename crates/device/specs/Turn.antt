@@ -7,24 +7,24 @@ use lib.ListN.{length}
 use Rattle.memory.specs.Window.{windowOf, putBack}
 use Rattle.command.specs.declared.header.Command.{Command}
 use Rattle.command.specs.declared.frame.Frame.{Frame}
-use Rattle.command.specs.declared.work.Performed.{Performed}
-use Rattle.command.specs.Choice.{either}
+use Rattle.work.specs.declared.work.Performed.{Performed}
+use Rattle.words.specs.Choice.{either}
 use Rattle.command.specs.Header.{commandAt, isWhole}
-use Rattle.command.specs.Perform.{performedOf}
+use Rattle.work.specs.Perform.{performedOf}
 use Rattle.command.specs.Report.{emits, interrupts, wordsRead}
-use Rattle.device.specs.declared.state.Ring.{Ring}
-use Rattle.device.specs.declared.state.Device.{Device}
-use Rattle.device.specs.declared.refusal.Verdict.{Verdict}
-use Rattle.device.specs.declared.refusal.Verdict.the-variants.{Sound, Refused}
-use Rattle.device.specs.declared.ready.Picked.{Picked}
-use Rattle.device.specs.declared.ready.Picked.the-variants.{Ring as RingOf, Nobody}
+use Rattle.state.specs.declared.device.Ring.{Ring}
+use Rattle.state.specs.declared.device.Device.{Device}
+use Rattle.state.specs.declared.refusal.Verdict.{Verdict}
+use Rattle.state.specs.declared.refusal.Verdict.the-variants.{Sound, Refused}
+use Rattle.state.specs.declared.ready.Picked.{Picked}
+use Rattle.state.specs.declared.ready.Picked.the-variants.{Ring as RingOf, Nobody}
 use Rattle.device.specs.declared.turn.Answer.{Answer}
 use Rattle.device.specs.declared.turn.Answer.the-variants.{Refused as RefusedFor, Idle, Served}
 use Rattle.device.specs.declared.turn.Turned.{Turned}
-use Rattle.device.specs.Slots.{emitted, emittedIn}
-use Rattle.device.specs.State.{ringOf, slotOf, withRing, withSlots, withMarker}
-use Rattle.device.specs.Refusal.{verdictOf}
-use Rattle.device.specs.Ready.{nextRing, bytesOfRing, pickOf}
+use Rattle.state.specs.Slots.{emitted, emittedIn}
+use Rattle.state.specs.Device.{ringOf, slotOf, withRing, withSlots, withMarker}
+use Rattle.state.specs.Refusal.{verdictOf}
+use Rattle.state.specs.Ready.{nextRing, bytesOfRing, pickOf}
 
 -- what is lent to a turn
 pub record Call : Type 0 where

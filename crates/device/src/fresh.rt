@@ -2,11 +2,11 @@
 ghost use mathlib.Core.Path.{_≡_};
 ghost use Rattle.device.specs.Fresh.{freshOf};
 ghost use Rattle.device.specs.Answer.{makingNumber};
-use crate::refusal::Refusal;
-use crate::refusal::memory_fits;
-use crate::refusal::refusal_number;
-use crate::state::Device;
-use crate::state::Window;
+use state::device::Device;
+use state::device::Window;
+use state::refusal::Refusal;
+use state::refusal::memory_fits;
+use state::refusal::refusal_number;
 
 pub enum Making {
     Made,

@@ -4,8 +4,4 @@ pub mod ParseLaws
 pub mod Accepted
 pub mod LaidOut
 pub mod SoundPacks
-pub mod DecimalLaws
-pub mod Stores
-pub mod LineLaws
 pub mod WholeCase
-pub mod OneAnswer

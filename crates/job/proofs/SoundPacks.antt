@@ -10,8 +10,8 @@ use borrow.Author.Tests.{le-leb, eq-eqb}
 use Rattle.memory.specs.Place.{wordAt}
 use Rattle.memory.specs.Window.{windowOf}
 use Rattle.memory.proofs.Window.{window-byte, window-length}
-use Rattle.kernel.specs.Pack.{kernelCount, firstWord, kernelWords, codeCount, allLie, soundPack}
-use Rattle.kernel.specs.Pack as pack
+use Rattle.pack.specs.Kernels.{kernelCount, firstWord, kernelWords, codeCount, allLie, soundPack}
+use Rattle.pack.specs.Kernels as pack
 use Rattle.job.specs.declared.parse.Parsed.the-variants.{Accepted}
 use Rattle.job.specs.declared.parts.Job.{Job}
 use Rattle.job.specs.Section.{sectionAt}

@@ -3,7 +3,7 @@ use Prim.Native.Nat.{ℕ, zero, suc, _+_}
 use mathlib.Core.Bool.{Bool, true, _&&_}
 use mathlib.Core.List.{List}
 use lib.Dec.{leb}
-use Rattle.kernel.specs.Pack.{firstWord, kernelWords}
+use Rattle.pack.specs.Kernels.{firstWord, kernelWords}
 
 -- kernel k of the pairs from `start` on has a word
 unfoldable pub hasWord : List ℕ → ℕ → ℕ → Bool

@@ -4,8 +4,4 @@ pub mod Kernels
 pub mod Checks
 pub mod Parts
 pub mod Parse
-pub mod Put
-pub mod Decimal
-pub mod Line
 pub mod WholeCase
-pub mod OneAnswer

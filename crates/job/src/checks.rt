@@ -6,8 +6,8 @@ use crate::kernels::all_have_words;
 use crate::kernels::all_lie_in_code;
 use crate::section::Section;
 use crate::section::is_whole;
-use kernel::pack::MOST_CODE;
-use kernel::pack::MOST_KERNELS;
+use pack::kernels::MOST_CODE;
+use pack::kernels::MOST_KERNELS;
 use words::choice::both;
 
 const MOST_MEMORY: u32 = 4096;

@@ -2,8 +2,8 @@
 ghost use mathlib.Core.Path.{_≡_};
 ghost use Prim.Native.Nat.{_≤_, _^_};
 ghost use Rattle.job.specs.Kernels.{hasWord, liesInCode, allBelow};
-use kernel::pack::first_word;
-use kernel::pack::kernel_words;
+use pack::kernels::first_word;
+use pack::kernels::kernel_words;
 use words::choice::both;
 
 // Kernel k of the pairs from `start` on has a word.

@@ -1,8 +1,6 @@
-// The replay job: its input taken apart and its lines spelled.
+// The replay job: its input taken apart.
 mod checks;
-mod decimal;
 mod kernels;
-pub mod line;
 pub mod parse;
 pub mod parts;
 mod section;

@@ -8,7 +8,7 @@ use native.Mathlib.Numerals.{add-one}
 use Rattle.memory.specs.After.{after}
 use Rattle.instruction.specs.declared.effect.Stop.{Stop}
 use Rattle.kernel.proofs.Settled.{after-stays}
-use Rattle.kernel.specs.declared.pack.Kernel.{Kernel}
+use Rattle.pack.specs.declared.kernels.Kernel.{Kernel}
 use Rattle.kernel.specs.declared.dispatch.Ran.{Ran}
 use Rattle.kernel.specs.declared.dispatch.Ran.the-variants.{Done, Stopped}
 use Rattle.kernel.specs.Dispatch.{ShowsRan, ifDone, going, threadOf, threadMore, threadsOf}

@@ -27,11 +27,11 @@ use Rattle.instruction.specs.Rows.{scalarRow, plainRow, countRow, immediateRow,
 use Rattle.instruction.specs.Decode.{opOf, decoded}
 use Rattle.instruction.specs.Meaning.{aluOf, unaryOf, holdsOf}
 use Rattle.instruction.specs.Effect.{branchEffect, effectOf}
-use Rattle.kernel.specs.declared.pack.Kernel.{Kernel}
+use Rattle.pack.specs.declared.kernels.Kernel.{Kernel}
 use Rattle.kernel.specs.declared.thread.Thread.{Thread}
 use Rattle.kernel.specs.declared.step.Progress.the-variants.{Stopped}
 use Rattle.kernel.specs.declared.dispatch.Ran.the-variants.{Stopped as StoppedFor}
-use Rattle.kernel.specs.Pack.{kernelCount, firstWord, kernelWords, codeCount, liesInCode, allLie, soundPack, kernelOf}
+use Rattle.pack.specs.Kernels.{kernelCount, firstWord, kernelWords, codeCount, liesInCode, allLie, soundPack, kernelOf}
 use Rattle.kernel.specs.Registers.{scalarOf, withScalar, startRegisters}
 use Rattle.kernel.specs.Thread.{started, written, advanced, movedTo}
 use Rattle.kernel.specs.Step.{stops, goesOn, lands, branched, afterStore, applied, executed, stepOf}

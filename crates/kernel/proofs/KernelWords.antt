@@ -8,11 +8,11 @@ use native.Mathlib.Omega.{arith}
 use Rattle.words.proofs.Order.{lt-or-ge}
 use Rattle.memory.specs.After.{after}
 use Rattle.memory.proofs.After.{after-agree}
-use Rattle.kernel.specs.declared.pack.Kernel.{Kernel}
+use Rattle.pack.specs.declared.kernels.Kernel.{Kernel}
 use Rattle.kernel.specs.declared.thread.Thread.{Thread}
 use Rattle.kernel.specs.declared.step.Progress.{Progress}
 use Rattle.kernel.specs.declared.step.Progress.the-variants.{Running, Ended, Stopped}
-use Rattle.kernel.specs.Pack.{kernelOf, codeWord}
+use Rattle.pack.specs.Kernels.{kernelOf, codeWord}
 use Rattle.kernel.specs.Thread.{started, movedTo, advanced}
 use Rattle.kernel.specs.Step.{stops, goesOn, ends, branched, stepOf}
 use Rattle.kernel.specs.Run.{ifRunning, stepMore, running, stepsOf, runOf}

@@ -10,11 +10,11 @@ use Rattle.instruction.specs.declared.list.Op.the-variants.{Wfi}
 use Rattle.instruction.specs.declared.effect.Stop.the-variants.{OutOfSteps}
 use Rattle.instruction.specs.Decode.{opOf, decoded}
 use Rattle.instruction.specs.Effect.{effectOf}
-use Rattle.kernel.specs.declared.pack.Kernel.{Kernel}
+use Rattle.pack.specs.declared.kernels.Kernel.{Kernel}
 use Rattle.kernel.specs.declared.thread.Thread.{Thread}
 use Rattle.kernel.specs.declared.step.Progress.{Progress}
 use Rattle.kernel.specs.declared.step.Progress.the-variants.{Running, Ended, Stopped}
-use Rattle.kernel.specs.Pack.{codeWord}
+use Rattle.pack.specs.Kernels.{codeWord}
 use Rattle.kernel.specs.Step.{State, stops, ends, applied, executed, stepOf}
 use Rattle.kernel.specs.Run.{ifRunning, stepMore, running, stepsOf, runOf}
 use Rattle.kernel.proofs.Runs.{one-step-more, run-rests, ended-rests, stopped-rests}

@@ -24,11 +24,11 @@ use Rattle.instruction.specs.declared.effect.Effect.{Effect}
 use Rattle.instruction.specs.declared.effect.Effect.the-variants.{Put, PutQuad, Store, StoreQuad, Go, Next, End, Stop as StopFor}
 use Rattle.instruction.specs.Decode.{decoded}
 use Rattle.instruction.proofs.Stops.{never-out-of-steps}
-use Rattle.kernel.specs.declared.pack.Kernel.{Kernel}
+use Rattle.pack.specs.declared.kernels.Kernel.{Kernel}
 use Rattle.kernel.specs.declared.thread.Thread.{Thread}
 use Rattle.kernel.specs.declared.step.Progress.{Progress}
 use Rattle.kernel.specs.declared.step.Progress.the-variants.{Running, Ended, Stopped}
-use Rattle.kernel.specs.Pack.{codeWord}
+use Rattle.pack.specs.Kernels.{codeWord}
 use Rattle.kernel.specs.Thread.{written, writtenVector, movedTo, advanced}
 use Rattle.kernel.specs.Step.{State, stops, goesOn, ends, lands, branched, afterStore, applied, executed, stepOf}
 

@@ -10,12 +10,12 @@ use Rattle.memory.specs.After.{after}
 use Rattle.memory.proofs.After.{after-agree}
 use Rattle.instruction.specs.declared.effect.Stop.{Stop}
 use Rattle.instruction.specs.declared.effect.Stop.the-variants.{OutOfSteps}
-use Rattle.kernel.specs.declared.pack.Kernel.{Kernel}
+use Rattle.pack.specs.declared.kernels.Kernel.{Kernel}
 use Rattle.kernel.specs.declared.step.Progress.{Progress}
 use Rattle.kernel.specs.declared.step.Progress.the-variants.{Running, Ended, Stopped}
 use Rattle.kernel.specs.declared.dispatch.Ran.{Ran}
 use Rattle.kernel.specs.declared.dispatch.Ran.the-variants.{Done, Stopped as StoppedFor}
-use Rattle.kernel.specs.Pack.{kernelOf}
+use Rattle.pack.specs.Kernels.{kernelOf}
 use Rattle.kernel.specs.Thread.{started}
 use Rattle.kernel.specs.Step.{State}
 use Rattle.kernel.specs.Run.{stepsOf, runOf}

@@ -12,11 +12,11 @@ use Rattle.memory.proofs.After.{after-keeps}
 use Rattle.memory.proofs.Places.{Bytes}
 use Rattle.memory.proofs.Lengths.{store-length, store-quad-length}
 use Rattle.memory.proofs.ByteSized.{store-bytes, store-quad-bytes}
-use Rattle.kernel.specs.declared.pack.Kernel.{Kernel}
+use Rattle.pack.specs.declared.kernels.Kernel.{Kernel}
 use Rattle.kernel.specs.declared.thread.Thread.{Thread}
 use Rattle.kernel.specs.declared.dispatch.Ran.{Ran}
 use Rattle.kernel.specs.declared.dispatch.Ran.the-variants.{Done, Stopped as StoppedFor}
-use Rattle.kernel.specs.Pack.{kernelOf}
+use Rattle.pack.specs.Kernels.{kernelOf}
 use Rattle.kernel.specs.Step.{stepOf}
 use Rattle.kernel.specs.Run.{running, stepsOf, runOf}
 use Rattle.kernel.specs.Dispatch.{shown, ifDone, going, threadOf, threadMore, threadsOf, dispatchOf}

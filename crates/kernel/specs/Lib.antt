@@ -1,4 +1,3 @@
-pub mod Pack
 pub mod Registers
 pub mod Thread
 pub mod Step

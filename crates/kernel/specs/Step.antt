@@ -17,11 +17,11 @@ use Rattle.instruction.specs.declared.effect.Effect.{Effect}
 use Rattle.instruction.specs.declared.effect.Effect.the-variants.{Put, PutQuad, Store, StoreQuad, Go, Next, End, Stop as StopFor}
 use Rattle.instruction.specs.Decode.{decoded}
 use Rattle.instruction.specs.Effect.{effectOf}
-use Rattle.kernel.specs.declared.pack.Kernel.{Kernel}
+use Rattle.pack.specs.declared.kernels.Kernel.{Kernel}
 use Rattle.kernel.specs.declared.thread.Thread.{Thread}
 use Rattle.kernel.specs.declared.step.Stepped.{Stepped}
 use Rattle.kernel.specs.declared.step.Progress.the-variants.{Running, Ended, Stopped}
-use Rattle.kernel.specs.Pack.{codeWord}
+use Rattle.pack.specs.Kernels.{codeWord}
 use Rattle.kernel.specs.Registers.{scalarOf}
 use Rattle.kernel.specs.Thread.{written, writtenVector, movedTo, advanced}
 

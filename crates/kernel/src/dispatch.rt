@@ -2,12 +2,12 @@
 ghost use mathlib.Core.Path.{_≡_};
 ghost use Prim.Native.Nat.{_*_, _^_, _<_};
 ghost use Rattle.kernel.specs.Dispatch.{ShowsRan, ranOf, threadOf, dispatchOf};
-use crate::pack::Kernel;
-use crate::pack::kernel_at;
 use crate::run::run;
 use crate::step::Progress;
 use crate::thread::Thread;
 use instruction::effect::Stop;
+use pack::kernels::Kernel;
+use pack::kernels::kernel_at;
 
 pub enum Ran {
     // Each thread came to its end.

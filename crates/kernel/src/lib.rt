@@ -1,6 +1,5 @@
-// Kernels: the pack, the registers, a thread's steps, and a dispatch.
+// Kernels: the registers, a thread's steps, and a dispatch.
 pub mod dispatch;
-pub mod pack;
 pub mod registers;
 pub mod run;
 pub mod step;

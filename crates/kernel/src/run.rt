@@ -2,11 +2,11 @@
 ghost use Prim.Native.Nat.{_^_, _<_};
 ghost use Rattle.kernel.specs.Step.{Shows};
 ghost use Rattle.kernel.specs.Run.{runOf};
-use crate::pack::Kernel;
 use crate::step::Progress;
 use crate::step::Stepped;
 use crate::step::step;
 use crate::thread::Thread;
+use pack::kernels::Kernel;
 
 // The steps that a thread may take.
 pub const STEP_LIMIT: u32 = 4096;

@@ -2,8 +2,6 @@
 ghost use mathlib.Core.Path.{_≡_};
 ghost use Prim.Native.Nat.{_+_, _^_, _<_};
 ghost use Rattle.kernel.specs.Step.{Shows, stops, goesOn, ends, branched, afterStore, applied, executed, stepOf};
-use crate::pack::Kernel;
-use crate::pack::code_word;
 use crate::thread::Thread;
 use instruction::decode::decode;
 use instruction::effect::Effect;
@@ -13,6 +11,8 @@ use instruction::list::Instr;
 use memory::access::store;
 use memory::address::Reach;
 use memory::quad::store_quad;
+use pack::kernels::Kernel;
+use pack::kernels::code_word;
 use words::arithmetic::add;
 use words::choice::both;
 

@@ -14,9 +14,9 @@ use Rattle.job.specs.Section.{sectionAt}
 use Rattle.job.specs.Sections.{sectionsOf, ring0Of, ring1Of, ring2Of, ring3Of, memoryOf}
 use Rattle.job.proofs.Accepted.{checked}
 use Rattle.memory.specs.Window.{windowOf}
-use Rattle.command.specs.Choice.{either}
-use Rattle.device.specs.declared.state.Device.{Device}
-use Rattle.device.specs.Ready.{bytesOfRing}
+use Rattle.words.specs.Choice.{either}
+use Rattle.state.specs.declared.device.Device.{Device}
+use Rattle.state.specs.Ready.{bytesOfRing}
 use Rattle.device.specs.Turn.{Call}
 use Rattle.device.specs.Left.{leftOf, sumOf, bytesLeft}
 use Rattle.replay.specs.Transcript.{firstCall}

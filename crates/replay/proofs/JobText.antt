@@ -4,11 +4,11 @@ use mathlib.Core.Path.{_≡_}
 use mathlib.Core.List.{List}
 use Prim.Native.Nat.{ℕ}
 use lib.ListN.{length}
-use Rattle.device.specs.declared.state.Window.{Window}
+use Rattle.state.specs.declared.device.Window.{Window}
 use Rattle.device.specs.declared.fresh.Fresh.{Fresh}
 use Rattle.device.specs.declared.fresh.Making.the-variants.{Made, Refused as RefusedFresh}
-use Rattle.device.specs.declared.refusal.Refusal.{Refusal}
-use Rattle.device.specs.Refusal.{refusalNumber}
+use Rattle.state.specs.declared.refusal.Refusal.{Refusal}
+use Rattle.state.specs.Refusal.{refusalNumber}
 use Rattle.device.specs.Answer.{makingNumber}
 use Rattle.device.specs.Fresh.{freshOf}
 use Rattle.device.specs.Turn.{callOf}
@@ -16,7 +16,7 @@ use Rattle.job.specs.declared.parse.Parsed.the-variants.{Accepted, Refused}
 use Rattle.job.specs.declared.parts.Job.{Job}
 use Rattle.job.specs.Parts.{bytesOf}
 use Rattle.job.specs.Parse.{partsOf}
-use Rattle.job.specs.Line.{refusedLine}
+use Rattle.spelling.specs.Line.{refusedLine}
 use Rattle.replay.specs.Transcript.{allLines, emptyPipe, firstCall, asWindow, freshFor, playedOn, jobText, parsedText, transcriptOf}
 
 module _ (input : List ℕ) where

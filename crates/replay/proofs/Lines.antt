@@ -4,15 +4,15 @@ use mathlib.Core.Path.{_≡_, refl, ap}
 use mathlib.Core.List.{List, _++_}
 use Prim.Native.Nat.{ℕ, zero, suc, _+_, _<_}
 use native.Mathlib.Omega.{arith}
-use Rattle.job.specs.Line.{idleLine, refusedLine}
+use Rattle.spelling.specs.Line.{idleLine, refusedLine}
 use Rattle.kernel.specs.Run.{stepLimit}
-use Rattle.device.specs.declared.state.Device.{Device}
-use Rattle.device.specs.declared.refusal.Refusal.{Refusal}
+use Rattle.state.specs.declared.device.Device.{Device}
+use Rattle.state.specs.declared.refusal.Refusal.{Refusal}
 use Rattle.device.specs.declared.turn.Answer.{Answer}
 use Rattle.device.specs.declared.turn.Answer.the-variants.{Served, Idle, Refused}
 use Rattle.device.specs.declared.turn.Report.{Report}
-use Rattle.device.specs.State.{Shaped}
-use Rattle.device.specs.Refusal.{refusalNumber}
+use Rattle.state.specs.Device.{Shaped}
+use Rattle.state.specs.Refusal.{refusalNumber}
 use Rattle.device.specs.Answer.{answerNumber}
 use Rattle.device.specs.Turn.{Call, turnOf}
 use Rattle.device.specs.Left.{bytesLeft}

@@ -8,7 +8,7 @@ use native.Mathlib.Nat.{add-zero}
 use native.Mathlib.Numerals.{add-one}
 use lib.ListN.{length, getD, set, take, drop, length-take, take-append-drop}
 use lib.Seq.{take-suc, take-suc-set, take-at, drop-set-lt, drop-drop, length-take-le}
-use Rattle.job.specs.Put.{Spelled}
+use Rattle.spelling.specs.Put.{Spelled}
 use Rattle.replay.specs.Text.{Appended}
 
 -- nothing is put yet

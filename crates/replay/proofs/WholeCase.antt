@@ -2,31 +2,31 @@
 -- Assumes nothing.
 use Rattle.job.specs.WholeCase.{wholeCase}
 use Rattle.job.specs.Parts.{bytesOf}
-use Rattle.job.specs.Decimal.{digits, decimal}
-use Rattle.job.specs.Line.{lineOf, turnLine, idleLine}
+use Rattle.spelling.specs.Decimal.{digits, decimal}
+use Rattle.spelling.specs.Line.{lineOf, turnLine, idleLine}
 use Rattle.job.proofs.WholeCase.{its-parts}
-use Rattle.device.specs.State.{freshDevice, ringOf, slotOf, withRing, withSlots, withMarker}
-use Rattle.device.specs.Slots.{emittedIn}
-use Rattle.device.specs.Refusal.{windowFits, memoryFits, windowsFit, ringSound, stateSound, ringFits, ringsFit, verdictOf}
-use Rattle.device.specs.Ready.{readyWith, readyWhere, readyAt, nextRing, seek, bytesOfRing, pickOf}
+use Rattle.state.specs.Device.{freshDevice, ringOf, slotOf, withRing, withSlots, withMarker}
+use Rattle.state.specs.Slots.{emittedIn}
+use Rattle.state.specs.Refusal.{windowFits, memoryFits, windowsFit, ringSound, stateSound, ringFits, ringsFit, verdictOf}
+use Rattle.state.specs.Ready.{readyWith, readyWhere, readyAt, nextRing, seek, bytesOfRing, pickOf}
 use Rattle.device.specs.Left.{leftOf, sumOf, bytesLeft}
 use Rattle.device.specs.Fresh.{freshOf}
 use Rattle.device.specs.Answer.{valuesOf}
 use Rattle.device.specs.Turn.{unchanged, fenceOf, emitTo, ringAfter, deviceAfter, reportOf, finished, servedOf, pickedOf, judgedOf, verdictOn, turnOf}
-use Rattle.command.specs.Choice.{either}
+use Rattle.words.specs.Choice.{either}
 use Rattle.command.specs.Table.{rowOf}
 use Rattle.command.specs.Header.{waitSize, payloadSize, targetAt, commandAt, isWhole}
 use Rattle.command.specs.Outcome.{outcomeNumber}
 use Rattle.command.specs.Faults.{unknownOpcode, wrongPayloadBit, noSuchSlot, headerFault}
 use Rattle.command.specs.Frame.{heldFault}
-use Rattle.command.specs.Shape.{isRectangle}
-use Rattle.command.specs.Checks.{slotFault, misaligned, unframed, outside, unfitFrame, unfitDispatch, checkOf}
+use Rattle.work.specs.Shape.{isRectangle}
+use Rattle.work.specs.Checks.{slotFault, misaligned, unframed, outside, unfitFrame, unfitDispatch, checkOf}
 use Rattle.command.specs.Report.{emits, wordsRead}
-use Rattle.command.specs.Work.{leaves, workOf}
-use Rattle.command.specs.Perform.{orElse, faultOf, guarded, performedOf}
+use Rattle.work.specs.Work.{leaves, workOf}
+use Rattle.work.specs.Perform.{orElse, faultOf, guarded, performedOf}
 use Rattle.memory.specs.Place.{wordAt}
 use Rattle.memory.specs.Window.{windowOf, putBack}
-use Rattle.kernel.specs.Pack.{kernelCount, codeCount, allLie, soundPack}
+use Rattle.pack.specs.Kernels.{kernelCount, codeCount, allLie, soundPack}
 use Rattle.replay.specs.Transcript.{linesOf, linesFrom, allLines, emptyPipe, firstCall, freshFor, playedOn, jobText}
 use Rattle.replay.specs.WholeCase.{WholeCase}
 use Rattle.replay.proofs.JobText.{accepted-text}

@@ -4,15 +4,15 @@ use mathlib.Core.Path.{_≡_}
 use mathlib.Core.List.{List, [], _++_}
 use lib.ListN.{length, replicate}
 use Rattle.kernel.specs.Run.{stepLimit}
-use Rattle.device.specs.declared.state.Device.{Device}
-use Rattle.device.specs.declared.state.Window.{Window}
+use Rattle.state.specs.declared.device.Device.{Device}
+use Rattle.state.specs.declared.device.Window.{Window}
 use Rattle.device.specs.declared.fresh.Fresh.{Fresh}
 use Rattle.device.specs.declared.fresh.Making.{Making}
 use Rattle.device.specs.declared.fresh.Making.the-variants.{Made, Refused as RefusedFresh}
 use Rattle.device.specs.declared.turn.Answer.{Answer}
 use Rattle.device.specs.declared.turn.Answer.the-variants.{Served, Idle, Refused as RefusedTurn}
 use Rattle.device.specs.declared.turn.Report.{Report}
-use Rattle.device.specs.State.{Shaped}
+use Rattle.state.specs.Device.{Shaped}
 use Rattle.device.specs.Answer.{answerNumber, valuesOf, makingNumber}
 use Rattle.device.specs.Fresh.{freshOf}
 use Rattle.device.specs.Turn.{Call, callOf, After, turnOf}
@@ -23,7 +23,7 @@ use Rattle.job.specs.declared.parts.Job.{Job}
 use Rattle.job.specs.declared.parts.Window.{Window as Pair}
 use Rattle.job.specs.Parts.{bytesOf}
 use Rattle.job.specs.Parse.{partsOf}
-use Rattle.job.specs.Line.{turnLine, idleLine, refusedLine}
+use Rattle.spelling.specs.Line.{turnLine, idleLine, refusedLine}
 
 -- the line of a served turn: turn, ring, outcome, fence, words read
 abbrev pub servedLine : ℕ → Report → List ℕ

@@ -2,11 +2,11 @@
 ghost use mathlib.Core.Path.{_≡_};
 ghost use Prim.Native.Nat.{_≤_};
 ghost use lib.ListN.{length};
-ghost use Rattle.device.specs.State.{Shaped};
+ghost use Rattle.state.specs.Device.{Shaped};
 ghost use Rattle.device.specs.Turn.{callOf};
 ghost use Rattle.device.specs.Left.{bytesLeft};
 ghost use Rattle.job.specs.Parse.{partsOf};
-ghost use Rattle.job.specs.Put.{Spelled};
+ghost use Rattle.spelling.specs.Put.{Spelled};
 ghost use Rattle.replay.specs.Transcript.{allLines, asWindow, emptyPipe, firstCall, jobText, transcriptOf};
 use crate::text::TEXT_BYTES;
 use crate::text::append;
@@ -15,15 +15,15 @@ use crate::text::append_refused;
 use crate::text::append_turn;
 use device::fresh::Making;
 use device::fresh::make;
-use device::refusal::refusal_number;
-use device::state::Device;
-use device::state::Window;
 use device::turn::Answer;
 use device::turn::turn;
 use job::parse::Parsed;
 use job::parse::take_apart;
 use job::parts::Job;
 use job::parts::bytes_of;
+use state::device::Device;
+use state::device::Window;
+use state::refusal::refusal_number;
 
 // Turns until idle or refused. Each served turn takes bytes of a ring, so the loop ends and the text has room.
 fn play_turns<'a>(

@@ -2,14 +2,14 @@
 ghost use mathlib.Core.Path.{_≡_};
 ghost use Prim.Native.Nat.{_+_, _≤_};
 ghost use lib.ListN.{length, take};
-ghost use Rattle.job.specs.Line.{idleLine, refusedLine};
+ghost use Rattle.spelling.specs.Line.{idleLine, refusedLine};
 ghost use Rattle.replay.specs.Text.{Appended, emptyText};
 ghost use Rattle.replay.specs.Transcript.{servedLine};
 use command::outcome::number;
 use device::turn::Report;
-use job::line::spell_idle;
-use job::line::spell_refused;
-use job::line::spell_turn;
+use spelling::line::spell_idle;
+use spelling::line::spell_refused;
+use spelling::line::spell_turn;
 
 // Room for 4,096 lines. No job has more than 3,841: its rings have at most 61,440 bytes, and a command at least 16.
 pub const TEXT_BYTES: usize = 262144;

@@ -10,3 +10,4 @@ pub mod ByteLaws
 pub mod ArithmeticLaws
 pub mod WordLaws
 pub mod BitwiseLaws
+pub mod Choices

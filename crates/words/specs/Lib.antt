@@ -7,3 +7,4 @@ pub mod Compare
 pub mod Counts
 pub mod Lanes
 pub mod Bitwise
+pub mod Choice

@@ -1,5 +1,5 @@
 -- `capi::calls::put_if_served` meets its contract. Assumes nothing.
-use Rattle.command.specs.Choice.{either}
+use Rattle.words.specs.Choice.{either}
 use Rattle.capi.specs.Calls.{imageAfter}
 use borrow.Author.Needs.{needs}
 use Rattle.capi.proofs.calls.put_if_served.Statement.{statement}

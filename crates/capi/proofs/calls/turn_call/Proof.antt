@@ -10,7 +10,7 @@ use Rattle.capi.proofs.WordBytes.{words-whole}
 use native.Mathlib.Omega.{arith}
 use Rattle.capi.specs.Calls.{turnCall, untouched, calledOf}
 use Rattle.capi.specs.Report.{reportWords, reportBytes}
-use Rattle.command.specs.Choice.{either}
+use Rattle.words.specs.Choice.{either}
 use borrow.Author.Tests.{eq-eqb, ne-eqb}
 use borrow.Author.Needs.{needs}
 use Rattle.capi.proofs.calls.turn_call.Statement.{statement}

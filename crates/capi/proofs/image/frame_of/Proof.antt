@@ -1,7 +1,7 @@
 -- `capi::image::frame_of` meets its contract. Assumes nothing.
 use native.Mathlib.Omega.{arith}
 use Rattle.capi.specs.Image.{frameOf}
-use Rattle.command.specs.Choice.{either}
+use Rattle.words.specs.Choice.{either}
 use borrow.Author.Tests.{eq-eqb, ne-eqb}
 use Rattle.capi.proofs.image.frame_of.Statement.{statement}
 use Rattle.capi.proofs.image.frame_of.Tie as tie

@@ -1,7 +1,7 @@
 -- `command::faults::header_fault` meets its contract. Assumes nothing.
 use mathlib.Core.Path.{_≡_, refl}
 use mathlib.Core.Bool.{false}
-use Rattle.command.proofs.Choices.{chosen, passed}
+use Rattle.words.proofs.Choices.{chosen, passed}
 use Rattle.command.specs.Flags.{reservedBit}
 use Rattle.command.specs.Faults.{unknownOpcode, wrongPayloadBit, noSuchSlot, headerFault}
 use borrow.Author.Needs.{needs}

@@ -1,7 +1,7 @@
 -- `command::frame::frame_fault` meets its contract. Assumes nothing.
 use mathlib.Core.Path.{_≡_, refl}
 use mathlib.Core.Bool.{false}
-use Rattle.command.proofs.Choices.{chosen, passed}
+use Rattle.words.proofs.Choices.{chosen, passed}
 use Rattle.command.specs.Frame.{frameMisaligned, frameOutside, frameUnfit, frameFault}
 use borrow.Author.Needs.{needs}
 use Rattle.command.proofs.frame.frame_fault.Statement.{statement}

@@ -1,7 +1,7 @@
 -- `command::report::words_read` meets its contract. Assumes nothing.
 use mathlib.Core.Path.{refl}
 use Rattle.command.specs.Report.{wordsRead}
-use Rattle.command.proofs.Choices.{chosen, passed}
+use Rattle.words.proofs.Choices.{chosen, passed}
 use borrow.Author.Needs.{needs}
 use Rattle.command.proofs.report.words_read.Statement.{statement}
 use Rattle.command.proofs.report.words_read.Tie as tie

@@ -1,7 +1,7 @@
 -- `compare::call::compare` meets its contract. Assumes nothing.
 use mathlib.Core.Path.{refl}
 use borrow.Author.Tests.{eq-eqb, ne-eqb}
-use Rattle.command.specs.Choice.{either}
+use Rattle.words.specs.Choice.{either}
 use Rattle.compare.specs.Call.{callCompared}
 use borrow.Author.Needs.{needs}
 use Rattle.compare.proofs.call.compare.Statement.{statement}

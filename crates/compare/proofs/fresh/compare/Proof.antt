@@ -1,6 +1,6 @@
 -- `compare::fresh::compare` meets its contract. Assumes nothing.
 use mathlib.Core.Path.{sym, _∙_}
-use Rattle.command.specs.Choice.{either}
+use Rattle.words.specs.Choice.{either}
 use Rattle.compare.specs.Fresh.{freshSeen}
 use borrow.Author.Needs.{needs}
 use Rattle.compare.proofs.fresh.compare.Statement.{statement}

@@ -1,6 +1,6 @@
 -- `compare::piece::piece_at` meets its contract. Assumes nothing.
 use borrow.Author.Tests.{lt-ltb, le-ltb}
-use Rattle.command.specs.Choice.{either}
+use Rattle.words.specs.Choice.{either}
 use Rattle.compare.specs.Piece.{pieceAt}
 use borrow.Author.Needs.{needs}
 use Rattle.compare.proofs.piece.piece_at.Statement.{statement}

@@ -3,7 +3,7 @@ use mathlib.Core.Path.{refl}
 use native.Mathlib.Omega.{arith}
 use borrow.Author.Tests.{not-true, not-false}
 use denote.Ref.{now}
-use Rattle.command.specs.Choice.{either}
+use Rattle.words.specs.Choice.{either}
 use Rattle.memory.proofs.Window.{loan-kept}
 use Rattle.compare.specs.Turn.{turnCompared, turnJudged}
 use Rattle.compare.proofs.Laid.{front-length, holds}

@@ -1,6 +1,6 @@
 -- `device::fresh::make` meets its contract. Assumes nothing.
 use Rattle.device.specs.Fresh.{freshOf}
-use Rattle.command.specs.Choice.{either}
+use Rattle.words.specs.Choice.{either}
 use borrow.Author.Needs.{needs}
 use Rattle.device.proofs.fresh.make.Statement.{statement}
 use Rattle.device.proofs.fresh.make.Tie as tie

@@ -1,6 +1,6 @@
 -- `device::turn::emit_to` meets its contract. Assumes nothing.
 use Rattle.device.specs.Turn.{emitTo}
-use Rattle.command.specs.Choice.{either}
+use Rattle.words.specs.Choice.{either}
 use borrow.Author.Needs.{needs}
 use Rattle.device.proofs.turn.emit_to.Statement.{statement}
 use Rattle.device.proofs.turn.emit_to.Tie as tie

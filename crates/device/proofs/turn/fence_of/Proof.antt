@@ -1,6 +1,6 @@
 -- `device::turn::fence_of` meets its contract. Assumes nothing.
 use Rattle.device.specs.Turn.{fenceOf}
-use Rattle.command.specs.Choice.{either}
+use Rattle.words.specs.Choice.{either}
 use borrow.Author.Needs.{needs}
 use Rattle.device.proofs.turn.fence_of.Statement.{statement}
 use Rattle.device.proofs.turn.fence_of.Tie as tie

@@ -9,7 +9,7 @@ use lib.ListN.{length}
 use borrow.Author.Needs.{needs}
 use Rattle.words.proofs.Powers.{product-fits}
 use Rattle.kernel.specs.Dispatch.{going, threadsOf, dispatchOf}
-use Rattle.kernel.proofs.Packs.{start-fits}
+use Rattle.pack.proofs.Packs.{start-fits}
 use Rattle.kernel.proofs.Dispatches.{no-thread, still-going, stop-stays}
 use Rattle.kernel.proofs.dispatch.dispatch.Statement.{statement}
 use Rattle.kernel.proofs.dispatch.dispatch.Tie as tie

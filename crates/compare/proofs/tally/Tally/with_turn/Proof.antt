@@ -1,6 +1,6 @@
 -- `compare::tally::Tally::with_turn` meets its contract. Assumes nothing.
 use borrow.Author.Tests.{eq-eqb, ne-eqb}
-use Rattle.command.specs.Choice.{either}
+use Rattle.words.specs.Choice.{either}
 use Rattle.compare.specs.Tally.{withTurn}
 use borrow.Author.Needs.{needs}
 use Rattle.compare.proofs.tally.Tally.with_turn.Statement.{statement}

@@ -1,0 +1,54 @@
+-- `kernel::pack::all_lie` meets its contract. The loop's invariant: `all` says whether each of the first k kernels lies in the code.
+-- Assumes nothing.
+use Prim.Native.Nat.{_-_, _≤_}
+use mathlib.Core.Path.{_≡_, refl}
+use native.Mathlib.Numerals.{add-one}
+use native.Mathlib.Omega.{arith}
+use native.Mathlib.Nat.{le-antisymm}
+use borrow.Author.Needs.{needs}
+use Rattle.pack.specs.Kernels.{allLie}
+use Rattle.pack.proofs.kernels.all_lie.Statement.{statement}
+use Rattle.pack.proofs.kernels.all_lie.Tie as tie
+
+abbrev Inv-loop : tie.InvT-loop
+Inv-loop pack n all₀ k₀ all k = (k ≤ n) × (all ≡ allLie pack k)
+
+abbrev μ-loop : tie.MeasureT-loop
+μ-loop pack n all₀ k₀ all k = n - k
+
+loop-holds : tie.Need-loop-holds Inv-loop μ-loop
+unfolding allLie
+loop-holds c = (omega arith, refl)
+
+lies-in-code-requires : tie.Need-lies-in-code-requires Inv-loop μ-loop
+lies-in-code-requires c κs = search needs
+
+both-requires : tie.Need-both-requires Inv-loop μ-loop
+both-requires c κs = search needs
+
+add-k : tie.Need-add-k Inv-loop μ-loop
+add-k c = omega arith
+
+loop-less : tie.Need-loop-less Inv-loop μ-loop
+loop-less c = omega arith
+
+loop-again : tie.Need-loop-again Inv-loop μ-loop
+unfolding allLie
+loop-again c = (omega arith, rw add-one (cc))
+
+returns : tie.Need-returns Inv-loop μ-loop
+returns c = cc (le-antisymm (c .before .loop .inv .0) (c .loop-test .left))
+
+pub all-lie-spec : {M : Type 1} → statement M
+all-lie-spec =
+    tie.close
+    (tie.spec
+    Inv-loop
+    μ-loop
+    loop-holds
+    lies-in-code-requires
+    both-requires
+    add-k
+    loop-less
+    loop-again
+    returns)

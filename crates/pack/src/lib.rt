@@ -1,0 +1,2 @@
+// The kernel pack: which kernels it holds, and whether it is faulty.
+pub mod kernels;

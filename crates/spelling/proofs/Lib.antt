@@ -1,0 +1,4 @@
+pub mod Stores
+pub mod DecimalLaws
+pub mod LineLaws
+pub mod OneAnswer

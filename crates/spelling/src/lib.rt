@@ -1,0 +1,3 @@
+// Numbers and lines spelled in lent bytes.
+pub mod decimal;
+pub mod line;

@@ -1,0 +1,35 @@
+-- `device::state::Device::fresh` meets its contract. Assumes nothing.
+use Rattle.state.specs.Device.{freshDevice}
+use borrow.Author.Needs.{needs}
+use Rattle.state.proofs.device.Device.fresh.Statement.{statement}
+use Rattle.state.proofs.device.Device.fresh.Tie as tie
+
+fresh-ring-requires : tie.Need-fresh-ring-requires
+fresh-ring-requires c κs = search needs
+
+fresh-ring-requires-2 : tie.Need-fresh-ring-requires-2
+fresh-ring-requires-2 c κs = search needs
+
+fresh-ring-requires-3 : tie.Need-fresh-ring-requires-3
+fresh-ring-requires-3 c κs = search needs
+
+fresh-ring-requires-4 : tie.Need-fresh-ring-requires-4
+fresh-ring-requires-4 c κs = search needs
+
+of-requires : tie.Need-of-requires
+of-requires c κs = search needs
+
+returns : tie.Need-returns
+unfolding freshDevice
+returns c = cc
+
+pub fresh-spec : {M : Type 1} → statement M
+fresh-spec =
+    tie.close
+    (tie.spec
+    fresh-ring-requires
+    fresh-ring-requires-2
+    fresh-ring-requires-3
+    fresh-ring-requires-4
+    of-requires
+    returns)

@@ -1,0 +1,55 @@
+-- `device::refusal::state_sound` meets its contract. Assumes nothing.
+use Rattle.state.specs.Refusal.{stateSound}
+use borrow.Author.Needs.{needs}
+use Rattle.state.proofs.refusal.state_sound.Statement.{statement}
+use Rattle.state.proofs.refusal.state_sound.Tie as tie
+
+ring-requires : tie.Need-ring-requires
+ring-requires c κs = search needs
+
+ring-sound-requires : tie.Need-ring-sound-requires
+ring-sound-requires c κs = search needs
+
+ring-requires-2 : tie.Need-ring-requires-2
+ring-requires-2 c κs = search needs
+
+ring-sound-requires-2 : tie.Need-ring-sound-requires-2
+ring-sound-requires-2 c κs = search needs
+
+ring-requires-3 : tie.Need-ring-requires-3
+ring-requires-3 c κs = search needs
+
+ring-sound-requires-3 : tie.Need-ring-sound-requires-3
+ring-sound-requires-3 c κs = search needs
+
+ring-requires-4 : tie.Need-ring-requires-4
+ring-requires-4 c κs = search needs
+
+ring-sound-requires-4 : tie.Need-ring-sound-requires-4
+ring-sound-requires-4 c κs = search needs
+
+all-four-requires : tie.Need-all-four-requires
+all-four-requires c κs = search needs
+
+both-requires : tie.Need-both-requires
+both-requires c κs = search needs
+
+returns : tie.Need-returns
+unfolding stateSound
+returns c = cc
+
+pub state-sound-spec : {M : Type 1} → statement M
+state-sound-spec =
+    tie.close
+    (tie.spec
+    ring-requires
+    ring-sound-requires
+    ring-requires-2
+    ring-sound-requires-2
+    ring-requires-3
+    ring-sound-requires-3
+    ring-requires-4
+    ring-sound-requires-4
+    all-four-requires
+    both-requires
+    returns)

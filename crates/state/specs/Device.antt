@@ -1,0 +1,58 @@
+-- The device's state.
+use Prim.Native.Nat.{ℕ, _^_, _<_}
+use mathlib.Core.Path.{_≡_}
+use mathlib.Core.List.{List, [], _∷_}
+use lib.ListN.{length, getD, set, replicate}
+use Rattle.command.specs.declared.frame.Frame.the-variants.{Unset}
+use Rattle.state.specs.declared.device.Window.{Window}
+use Rattle.state.specs.declared.device.Ring.{Ring}
+use Rattle.state.specs.declared.device.Device.{Device}
+
+-- an empty window at 0
+abbrev pub emptyWindow : Window
+emptyWindow = record { start = 0; length = 0 }
+
+-- a ring as it is when fresh: its cursor at 0, no frame
+abbrev pub freshRing : Window → Ring
+freshRing window = record { window = window; cursor = 0; frame = Unset }
+
+-- a device of these parts
+abbrev pub deviceOf : List Ring → List ℕ → ℕ → Device
+deviceOf rings slots marker = record { rings = rings; slots = slots; marker = marker }
+
+-- a device has four rings and 64 slots
+pub record Shaped (d : Device) : Type 0 where
+  pub rings : length (d .rings) ≡ 4
+  pub slots : length (d .slots) ≡ 64
+
+-- a fresh device: all 64 slots 0, the marker 0
+unfoldable pub freshDevice : Window → Window → Window → Window → Device
+freshDevice w0 w1 w2 w3 = deviceOf (freshRing w0 ∷ freshRing w1 ∷ freshRing w2 ∷ freshRing w3 ∷ []) (replicate 64 0) 0
+
+-- ring q
+unfoldable pub ringOf : Device → ℕ → Ring
+ringOf d q = getD (d .rings) q (freshRing emptyWindow)
+
+-- the number that slot n holds
+unfoldable pub slotOf : Device → ℕ → ℕ
+slotOf d n = getD (d .slots) n 0
+
+-- each slot holds a 32-bit number
+unfoldable pub SlotsFit : Device → Type 0
+SlotsFit d = (n : ℕ) → slotOf d n < 2 ^ 32
+
+-- what every device has by its type: four rings, 64 slots, and 32-bit numbers in the slots and the marker
+pub record ByType (d : Device) : Type 0 where
+  pub shaped : Shaped d
+  pub slots-fit : SlotsFit d
+  pub marker-fits : d .marker < 2 ^ 32
+
+-- the device with one ring, the slots or the marker changed
+unfoldable pub withRing : Device → ℕ → Ring → Device
+withRing d q ring = deviceOf (set (d .rings) q ring) (d .slots) (d .marker)
+
+unfoldable pub withSlots : Device → List ℕ → Device
+withSlots d slots = deviceOf (d .rings) slots (d .marker)
+
+unfoldable pub withMarker : Device → ℕ → Device
+withMarker d marker = deviceOf (d .rings) (d .slots) marker

@@ -1,0 +1,4 @@
+pub mod Slots
+pub mod Device
+pub mod Refusal
+pub mod Ready

@@ -1,0 +1,22 @@
+// The 64 completion slots, passed and returned by value.
+ghost use mathlib.Core.Path.{_≡_};
+ghost use Rattle.state.specs.Slots.{emitted, emittedIn};
+use words::arithmetic::add;
+
+// The number that an emit leaves in its slot.
+pub fn emitted(slot: u32) -> u32
+    ensures { λ r. ⌜ r ≡ emitted slot ⌝ }
+{
+    add(slot, 1)
+}
+
+// An emit changes one place, slot n; where there is no such slot, none.
+pub fn emit(mut slots: [u32; 64], n: u8) -> [u32; 64]
+    ensures { λ r. ⌜ r ≡ emittedIn slots n ⌝ }
+{
+    let at = n as usize;
+    if at < 64 {
+        slots[at] = emitted(slots[at]);
+    }
+    slots
+}

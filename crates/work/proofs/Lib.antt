@@ -1,0 +1,9 @@
+pub mod Shapes
+pub mod Inside
+pub mod Works
+pub mod Faultless
+pub mod Performs
+pub mod Numbers
+pub mod Kept
+pub mod Reports
+pub mod Rings

@@ -1,0 +1,21 @@
+-- `command::work::run` meets its contract. Assumes nothing.
+use Rattle.work.specs.Work.{dispatchedBy}
+use borrow.Author.Needs.{needs}
+use Rattle.work.proofs.work.run.Statement.{statement}
+use Rattle.work.proofs.work.run.Tie as tie
+
+dispatch-requires : tie.Need-dispatch-requires
+dispatch-requires c κs = search needs
+
+ran-outcome-requires : tie.Need-ran-outcome-requires
+ran-outcome-requires c κs = search needs
+
+same-length : tie.Need-same-length
+same-length c = search needs
+
+returns : tie.Need-returns
+unfolding dispatchedBy
+returns c = (cc, c .before .before .before .dispatch .ensures .memory)
+
+pub run-spec : {M : Type 1} → statement M
+run-spec = tie.close (tie.spec dispatch-requires ran-outcome-requires same-length returns)

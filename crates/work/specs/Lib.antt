@@ -1,0 +1,4 @@
+pub mod Shape
+pub mod Checks
+pub mod Work
+pub mod Perform

@@ -1,0 +1,140 @@
+// The work of the commands, on the ring's window, the pipe and the frame.
+ghost use mathlib.Core.Path.{_≡_};
+ghost use mathlib.Core.Bool.{true, false};
+ghost use Prim.Native.Nat.{_+_, _*_, _≤_};
+ghost use lib.ListN.{length};
+ghost use Rattle.memory.specs.Rectangle.{rectangleEnd, filled};
+ghost use Rattle.memory.specs.Copy.{blitted};
+ghost use Rattle.command.specs.Frame.{strideOf};
+ghost use Rattle.work.specs.Shape.{widthOf, heightOf};
+ghost use Rattle.work.specs.Checks.{outside};
+ghost use Rattle.command.specs.Table.{rowOf};
+ghost use Rattle.work.specs.Work.{Shows, heldBy, ranOutcome, dispatchedBy, workOf};
+use crate::shape::height;
+use crate::shape::width;
+use command::frame::Frame;
+use command::frame::stride_of;
+use command::header::Command;
+use command::opcode;
+use command::outcome::Outcome;
+use instruction::effect::Stop;
+use kernel::dispatch::Ran;
+use kernel::dispatch::dispatch;
+use memory::copy;
+use memory::rectangle::fill;
+use memory::transfer::read_words;
+use memory::transfer::write_words;
+
+pub struct Performed {
+    pub outcome: Outcome,
+    pub frame: Frame,
+}
+
+fn ran_outcome(ran: Ran) -> Outcome
+    ensures { λ r. ⌜ r ≡ ranOutcome ran ⌝ }
+{
+    match ran {
+        Ran::Done => Outcome::Done,
+        Ran::Stopped(why) => match why {
+            Stop::NotListed => Outcome::NotListed,
+            Stop::OffTheKernel => Outcome::OffTheKernel,
+            Stop::OutsideTheWindow => Outcome::AccessOutside,
+            Stop::OutOfSteps => Outcome::OutOfSteps,
+        },
+    }
+}
+
+fn fill_rect(command: Command, window: &mut [u8], frame: Frame)
+    requires { ⌜ rectangleEnd (command .arg0) (strideOf frame) (widthOf command) (heightOf command) ≤ length (now window) ⌝ }
+    ensures { λ _. ⌜ now (window .exit) ≡ filled (command .arg0) (strideOf frame) (widthOf command) (heightOf command) (command .arg2) (now (window .entry)) ⌝ }
+{
+    let stride = stride_of(frame) as usize;
+    fill(
+        window,
+        command.arg0 as usize,
+        stride,
+        width(command),
+        height(command),
+        command.arg2,
+    );
+}
+
+fn blit_rect(command: Command, window: &mut [u8], frame: Frame)
+    requires { ⌜ (rectangleEnd (command .arg0) (strideOf frame) (widthOf command) (heightOf command) ≤ length (now window)) × (rectangleEnd (command .arg1) (strideOf frame) (widthOf command) (heightOf command) ≤ length (now window)) ⌝ }
+    ensures { λ _. ⌜ now (window .exit) ≡ blitted (command .arg0) (command .arg1) (strideOf frame) (widthOf command) (heightOf command) (now (window .entry)) ⌝ }
+{
+    let stride = stride_of(frame) as usize;
+    let to = command.arg0 as usize;
+    copy::blit(
+        window,
+        to,
+        command.arg1 as usize,
+        stride,
+        width(command),
+        height(command),
+    );
+}
+
+fn run(command: Command, window: &mut [u8], pack: &[u8], limit: u32) -> Outcome
+    ensures { λ r. ⌜ (r ≡ ranOutcome (dispatchedBy command limit (now (pack .entry)) (now (window .entry)) .ran)) × (now (window .exit) ≡ dispatchedBy command limit (now (pack .entry)) (now (window .entry)) .window) ⌝ }
+{
+    let ran = dispatch(
+        pack,
+        command.arg2,
+        command.arg0,
+        command.arg1,
+        limit,
+        window,
+    );
+    ran_outcome(ran)
+}
+
+fn held(command: Command) -> Frame
+    ensures { λ r. ⌜ r ≡ heldBy command ⌝ }
+{
+    Frame::Held {
+        base: command.arg0,
+        stride: command.arg1,
+        format: command.arg2,
+    }
+}
+
+pub fn work(
+    command: Command,
+    ring: &[u8],
+    window: &mut [u8],
+    frame: Frame,
+    pack: &[u8],
+    pipe: &mut [u8],
+    limit: u32,
+) -> Performed
+    requires { ⌜ (outside command (length (now window)) frame ≡ false) × (rowOf (command .opcode) .payload ≡ true → command .payload + 4 * command .len ≤ length (now ring)) × (1020 ≤ length (now pipe)) ⌝ }
+    ensures { λ r. ⌜ Shows r (now (window .exit)) (now (pipe .exit)) (workOf command (now (ring .entry)) (now (window .entry)) frame (now (pack .entry)) (now (pipe .entry)) limit) ⌝ }
+{
+    let to = command.arg0 as usize;
+    let words = command.len as usize;
+    let opcode = command.opcode;
+    match opcode {
+        opcode::WRITE_MEM => write_words(window, to, ring, command.payload, words),
+        opcode::READ_MEM => read_words(window, to, words, pipe),
+        opcode::FILL_RECT => fill_rect(command, window, frame),
+        opcode::BLIT => blit_rect(command, window, frame),
+        opcode::COPY_BUFFER => copy::copy(window, to, command.arg1 as usize, words),
+        opcode::DISPATCH_1D => {
+            let outcome = run(command, window, pack, limit);
+            return Performed { outcome, frame };
+        }
+        opcode::SET_FB => {
+            let frame = held(command);
+            return Performed {
+                outcome: Outcome::Done,
+                frame,
+            };
+        }
+        _ => {}
+    }
+    Performed {
+        outcome: Outcome::Done,
+        frame,
+    }
+}
