@@ -7,7 +7,7 @@
 #include <string.h>
 #include <time.h>
 
-#include "../independent/image.h"
+#include "../independent/device/image.h"
 #include "kernels.h"
 #include "works.h"
 

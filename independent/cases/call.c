@@ -4,8 +4,8 @@
 #include <stdlib.h>
 #include <string.h>
 
-#include "image.h"
-#include "kernels/packs.h"
+#include "cases/kernels/packs.h"
+#include "device/image.h"
 
 /* A little more than a device takes, so that what is too long can be lent. */
 static const size_t most[PIECES] = {

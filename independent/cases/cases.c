@@ -2,7 +2,7 @@
 
 #include "cases/commands.h"
 #include "cases/draw.h"
-#include "image.h"
+#include "device/image.h"
 
 const char *const case_names[CASE_KINDS] = {
     "fresh", "structured", "edged", "damaged"

@@ -1,8 +1,8 @@
 /* Turns with bytes changed, and turns of any bytes. */
 #include "cases/commands.h"
 #include "cases/draw.h"
-#include "image.h"
-#include "kernels/packs.h"
+#include "cases/kernels/packs.h"
+#include "device/image.h"
 
 static void damage_image(struct call *call, struct chance *c)
 {

@@ -3,8 +3,8 @@
 #define DRAW_H
 
 #include "cases/call.h"
+#include "cases/kernels/chance.h"
 #include "cases/scene.h"
-#include "kernels/chance.h"
 
 void draw_fresh(struct call *call, struct chance *c);
 void draw_structured(struct call *call, struct chance *c);

@@ -1,7 +1,7 @@
 /* Turns at an edge of what the page allows. */
 #include "cases/commands.h"
 #include "cases/draw.h"
-#include "kernels/packs.h"
+#include "cases/kernels/packs.h"
 
 /* Other numbers than 0 and 1 for held, and numbers of a frame not held: a
  * served turn writes them anew. */

@@ -1,7 +1,7 @@
 /* Calls of fresh. */
 #include "cases/draw.h"
-#include "device.h"
-#include "kernels/packs.h"
+#include "cases/kernels/packs.h"
+#include "device/device.h"
 
 static uint64_t any_span(struct chance *c)
 {

@@ -2,8 +2,8 @@
 
 #include "cases/commands.h"
 #include "cases/draw.h"
-#include "job.h"
-#include "kernels/packs.h"
+#include "cases/kernels/packs.h"
+#include "device/job.h"
 
 static uint8_t room[JOB_MOST + GUARD];
 static struct piece input = { room, 0, JOB_MOST };

@@ -2,8 +2,8 @@
 
 #include <string.h>
 
-#include "image.h"
-#include "parts.h"
+#include "device/image.h"
+#include "device/parts.h"
 
 void scene_start(struct scene *s, struct call *call, struct chance *c,
                  uint32_t odd_mille)

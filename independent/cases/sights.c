@@ -2,7 +2,7 @@
 
 #include <string.h>
 
-#include "image.h"
+#include "device/image.h"
 
 const char *const sight_names[SIGHTS] = {
     [SEEN_FENCE] = "a fence reported",

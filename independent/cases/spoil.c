@@ -1,7 +1,7 @@
 /* Reasons for a call to be refused, and near misses of them. */
 #include "cases/draw.h"
-#include "device.h"
-#include "kernels/packs.h"
+#include "cases/kernels/packs.h"
+#include "device/device.h"
 
 uint8_t *image_word(struct call *call, uint32_t ring, uint32_t word)
 {

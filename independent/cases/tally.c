@@ -4,9 +4,9 @@
 #include <stdlib.h>
 #include <string.h>
 
+#include "cases/kernels/table.h"
 #include "cases/sights.h"
-#include "image.h"
-#include "kernels/table.h"
+#include "device/image.h"
 
 enum { OUTCOMES = 15, REFUSALS = 5, OPCODES = 8 };
 

@@ -5,7 +5,7 @@
 #include <stdlib.h>
 #include <string.h>
 
-#include "job.h"
+#include "device/job.h"
 
 enum { REFUSALS = 10, OUTCOMES = 15, TURN_SPANS = 6 };
 

@@ -2,8 +2,8 @@
  * With MUTANT it makes one error, which the comparison has to tell. */
 #include <string.h>
 
-#include "image.h"
-#include "parts.h"
+#include "device/image.h"
+#include "device/parts.h"
 #include "whole/whole.h"
 
 #ifndef MUTANT

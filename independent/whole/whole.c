@@ -6,7 +6,7 @@
 #include "cases/cases.h"
 #include "cases/number.h"
 #include "cases/tally.h"
-#include "image.h"
+#include "device/image.h"
 #include "whole/whole.h"
 
 static void tell(uint64_t seed, uint64_t number, int piece,

@@ -3,8 +3,8 @@
 #include <inttypes.h>
 #include <stdio.h>
 
-#include "image.h"
-#include "records.h"
+#include "device/image.h"
+#include "records/records.h"
 
 /* Makes one call again; 1 if it differs from the record. */
 static int differs(uint64_t number, struct call *again,

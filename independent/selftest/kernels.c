@@ -1,5 +1,5 @@
 /* Kernels: the instruction list, each instruction, outcomes 11 to 14. */
-#include "bench.h"
+#include "selftest/stage.h"
 
 #include <string.h>
 
@@ -381,20 +381,20 @@ static void thread_inputs(void)
         s_shape(2, 5, 1, 16), s_shape(2, 5, 2, 20), s_shape(2, 5, 3, 24),
         s_shape(2, 5, 4, 28), WFI
     };
-    struct bench *bench = bench_new(128);
+    struct stage *stage = stage_new(128);
 
-    pack_one(bench, words, 9);
-    CHECK_EQ(serve(bench, head(0x20, 3, 1, 0), 2, 3, 0), 0);
-    CHECK_EQ(bench->report.fence, 1);
-    CHECK_EQ(get_word(bench->memory), 6);
+    pack_one(stage, words, 9);
+    CHECK_EQ(serve(stage, head(0x20, 3, 1, 0), 2, 3, 0), 0);
+    CHECK_EQ(stage->report.fence, 1);
+    CHECK_EQ(get_word(stage->memory), 6);
     for (uint32_t i = 0; i < 6; i++) {
-        const uint8_t *block = bench->memory + 16 + 16 * i;
+        const uint8_t *block = stage->memory + 16 + 16 * i;
         CHECK_EQ(get_word(block), i / 3);
         CHECK_EQ(get_word(block + 4), i % 3);
         CHECK_EQ(get_word(block + 8), 3);
         CHECK_EQ(get_word(block + 12), 2);
     }
-    bench_free(bench);
+    stage_free(stage);
 }
 
 /* Threads 0 to 3 store a mark, then thread 3 stops: no thread comes after,
@@ -413,15 +413,15 @@ static void stops_in_a_dispatch(void)
             s_shape(0, 6, 7, 0), i_shape(INT_IMM, 0, 5, 0, 3),
             b_shape(0, 2, 5, 8), WFI, stops[i]
         };
-        struct bench *bench = bench_new(64);
-        pack_one(bench, words, 7);
-        CHECK_EQ(serve(bench, head(0x20, 3, 1, 0), 2, 8, 0), want[i]);
-        CHECK_EQ(bench->report.fence, 1);
-        CHECK_EQ(bench->report.irq, 1);
-        CHECK_EQ(get_word(bench->memory), 0x01010101);
+        struct stage *stage = stage_new(64);
+        pack_one(stage, words, 7);
+        CHECK_EQ(serve(stage, head(0x20, 3, 1, 0), 2, 8, 0), want[i]);
+        CHECK_EQ(stage->report.fence, 1);
+        CHECK_EQ(stage->report.irq, 1);
+        CHECK_EQ(get_word(stage->memory), 0x01010101);
         for (uint32_t at = 4; at < 64; at += 4)
-            CHECK_EQ(get_word(bench->memory + at), 0);
-        bench_free(bench);
+            CHECK_EQ(get_word(stage->memory + at), 0);
+        stage_free(stage);
     }
 }
 
@@ -431,16 +431,16 @@ static void kernels_are_apart(void)
     const uint32_t numbers[] = {
         3, 0, 1, 1, 2, 0, 4, 4, MEMBAR, b_shape(0, 0, 0, -4), WFI, WFI
     };
-    struct bench *bench = bench_new(0);
+    struct stage *stage = stage_new(0);
 
     for (uint32_t i = 0; i < 12; i++)
-        put_word(bench->pack + 4 * i, numbers[i]);
-    bench->pack_len = 48;
-    CHECK_EQ(serve(bench, head(0x20, 0, 0, 0), 1, 1, 0), 12);
-    CHECK_EQ(serve(bench, head(0x20, 0, 0, 0), 1, 1, 1), 12);
-    CHECK_EQ(serve(bench, head(0x20, 0, 0, 0), 1, 1, 2), 14);
-    CHECK_EQ(serve(bench, head(0x20, 0, 0, 0), 1, 1, 3), 10);
-    bench_free(bench);
+        put_word(stage->pack + 4 * i, numbers[i]);
+    stage->pack_len = 48;
+    CHECK_EQ(serve(stage, head(0x20, 0, 0, 0), 1, 1, 0), 12);
+    CHECK_EQ(serve(stage, head(0x20, 0, 0, 0), 1, 1, 1), 12);
+    CHECK_EQ(serve(stage, head(0x20, 0, 0, 0), 1, 1, 2), 14);
+    CHECK_EQ(serve(stage, head(0x20, 0, 0, 0), 1, 1, 3), 10);
+    stage_free(stage);
 }
 
 void test_kernels(void)

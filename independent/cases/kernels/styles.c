@@ -1,10 +1,9 @@
-#include "styles.h"
+#include "cases/kernels/styles.h"
 
-#include <device.h>
-
-#include "maker.h"
-#include "misses.h"
-#include "table.h"
+#include "cases/kernels/maker.h"
+#include "cases/kernels/misses.h"
+#include "cases/kernels/table.h"
+#include "device/device.h"
 
 static void make_careful(struct maker *m)
 {

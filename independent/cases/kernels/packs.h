@@ -3,7 +3,7 @@
 #ifndef PACKS_H
 #define PACKS_H
 
-#include "chance.h"
+#include "cases/kernels/chance.h"
 
 enum {
     PACK_MOST = 4 + 8 * 17 + 4 + 4 * 16400 + 8 /* bytes, some packs too long */

@@ -1,6 +1,6 @@
-#include "maker.h"
-#include "misses.h"
-#include "table.h"
+#include "cases/kernels/maker.h"
+#include "cases/kernels/misses.h"
+#include "cases/kernels/table.h"
 
 /* A number that this instruction has an edge at, as its operand 0 or 1. */
 static uint32_t operand_for(struct maker *m, int row, uint32_t which)

@@ -1,9 +1,9 @@
-#include "records.h"
+#include "records/records.h"
 
 #include <string.h>
 
-#include "image.h"
-#include "kernels/packs.h"
+#include "cases/kernels/packs.h"
+#include "device/image.h"
 
 /* A piece of a record: which, and of the call before or after it was made. */
 struct part {

@@ -1,5 +1,5 @@
 /* Whole calls: a fresh device, refusals 101 to 105, packs, and odd states. */
-#include "bench.h"
+#include "selftest/stage.h"
 
 #include <string.h>
 
@@ -33,47 +33,47 @@ static void fresh_devices(void)
     CHECK_EQ(ind_fresh(&device, 17, good), 0);
 }
 
-/* A bench whose next turn would be served: an emitting READ_MEM. */
-static struct bench *would_serve(void)
+/* A stage whose next turn would be served: an emitting READ_MEM. */
+static struct stage *would_serve(void)
 {
-    struct bench *bench = bench_new(64);
+    struct stage *stage = stage_new(64);
 
-    push(bench, 0, head(0x02, 3, 0, 1), 0, 0, 0);
-    return bench;
+    push(stage, 0, head(0x02, 3, 0, 1), 0, 0, 0);
+    return stage;
 }
 
 static void refusals_101(void)
 {
-    struct bench *bench = would_serve();
-    struct ind_ring *ring = &bench->device.rings[3];
+    struct stage *stage = would_serve();
+    struct ind_ring *ring = &stage->device.rings[3];
 
-    bench->memory_len = 1048577;
-    bench_unserved(bench, 101);
-    bench->memory_len = 63;
-    bench_unserved(bench, 101);
-    bench->memory_len = 64;
+    stage->memory_len = 1048577;
+    stage_unserved(stage, 101);
+    stage->memory_len = 63;
+    stage_unserved(stage, 101);
+    stage->memory_len = 64;
     ring->window_length = 68;
-    bench_unserved(bench, 101);
+    stage_unserved(stage, 101);
     ring->window_length = 62;
-    bench_unserved(bench, 101);
+    stage_unserved(stage, 101);
     ring->window_length = 4;
     ring->window_start = 62;
-    bench_unserved(bench, 101);
+    stage_unserved(stage, 101);
     ring->window_start = 0xFFFFFFFC;
-    bench_unserved(bench, 101);
+    stage_unserved(stage, 101);
     ring->window_start = 68;
     ring->window_length = 0;
-    bench_unserved(bench, 101);
+    stage_unserved(stage, 101);
     ring->window_start = 64;
-    bench->memory_len = 1048576;
-    CHECK_EQ(bench_turn(bench), IND_SERVED);
-    bench_free(bench);
+    stage->memory_len = 1048576;
+    CHECK_EQ(stage_turn(stage), IND_SERVED);
+    stage_free(stage);
 }
 
 static void refusals_102(void)
 {
-    struct bench *bench = would_serve();
-    struct ind_ring *ring = &bench->device.rings[2];
+    struct stage *stage = would_serve();
+    struct ind_ring *ring = &stage->device.rings[2];
     const struct ind_frame bad[] = {
         {1, 2, 16, 0}, {1, 0, 18, 0}, {1, 64, 16, 0}, {1, 0, 0, 0},
         {1, 0, 65540, 0}, {1, 0, 16, 1}, {0xFFFFFFFF, 0, 16, 1}
@@ -82,72 +82,72 @@ static void refusals_102(void)
         {0, 2, 18, 1}, {1, 60, 65536, 0}, {2, 0, 4, 0}
     };
 
-    bench->device.marker = 4;
-    bench_unserved(bench, 102);
-    bench->device.marker = 0xFFFFFFFF;
-    bench_unserved(bench, 102);
-    bench->device.marker = 3;
+    stage->device.marker = 4;
+    stage_unserved(stage, 102);
+    stage->device.marker = 0xFFFFFFFF;
+    stage_unserved(stage, 102);
+    stage->device.marker = 3;
     ring->cursor = 65537;
-    bench_unserved(bench, 102);
+    stage_unserved(stage, 102);
     ring->cursor = 0;
     for (size_t i = 0; i < sizeof bad / sizeof bad[0]; i++) {
         ring->frame = bad[i];
-        bench_unserved(bench, 102);
+        stage_unserved(stage, 102);
     }
     for (size_t i = 0; i < sizeof good / sizeof good[0]; i++) {
         ring->frame = good[i];
-        bench->device.rings[0].cursor = 0;
-        CHECK_EQ(bench_turn(bench), IND_SERVED);
+        stage->device.rings[0].cursor = 0;
+        CHECK_EQ(stage_turn(stage), IND_SERVED);
     }
-    bench_free(bench);
+    stage_free(stage);
 }
 
 static void refusals_103_to_105(void)
 {
-    struct bench *bench = would_serve();
+    struct stage *stage = would_serve();
 
-    bench->ring_len[1] = 65537;
-    bench_unserved(bench, 103);
-    bench->ring_len[1] = 65536;
-    CHECK_EQ(bench_turn(bench), IND_SERVED);
-    bench->ring_len[1] = 0;
-    bench->device.rings[0].cursor = 17;
-    bench_unserved(bench, 103);
-    bench->device.rings[0].cursor = 0;
-    bench->pipe_len = 1019;
-    bench_unserved(bench, 104);
-    bench->pipe_len = 1020;
-    bench->pack_len = 7;
-    bench_unserved(bench, 105);
-    bench->pack_len = 12;
-    bench_unserved(bench, 105);
-    bench->pack_len = 8;
-    CHECK_EQ(bench_turn(bench), IND_SERVED);
-    bench_free(bench);
+    stage->ring_len[1] = 65537;
+    stage_unserved(stage, 103);
+    stage->ring_len[1] = 65536;
+    CHECK_EQ(stage_turn(stage), IND_SERVED);
+    stage->ring_len[1] = 0;
+    stage->device.rings[0].cursor = 17;
+    stage_unserved(stage, 103);
+    stage->device.rings[0].cursor = 0;
+    stage->pipe_len = 1019;
+    stage_unserved(stage, 104);
+    stage->pipe_len = 1020;
+    stage->pack_len = 7;
+    stage_unserved(stage, 105);
+    stage->pack_len = 12;
+    stage_unserved(stage, 105);
+    stage->pack_len = 8;
+    CHECK_EQ(stage_turn(stage), IND_SERVED);
+    stage_free(stage);
 }
 
 /* All five at once, then one mended at a time: the order is 101 to 105. */
 static void refusal_order(void)
 {
-    struct bench *bench = would_serve();
+    struct stage *stage = would_serve();
 
-    bench->memory_len = 60;
-    bench->device.marker = 4;
-    bench->ring_len[3] = 65537;
-    bench->pipe_len = 0;
-    bench->pack_len = 0;
-    bench_unserved(bench, 101);
-    bench->memory_len = 64;
-    bench_unserved(bench, 102);
-    bench->device.marker = 0;
-    bench_unserved(bench, 103);
-    bench->ring_len[3] = 0;
-    bench_unserved(bench, 104);
-    bench->pipe_len = 1020;
-    bench_unserved(bench, 105);
-    bench->pack_len = 8;
-    CHECK_EQ(bench_turn(bench), IND_SERVED);
-    bench_free(bench);
+    stage->memory_len = 60;
+    stage->device.marker = 4;
+    stage->ring_len[3] = 65537;
+    stage->pipe_len = 0;
+    stage->pack_len = 0;
+    stage_unserved(stage, 101);
+    stage->memory_len = 64;
+    stage_unserved(stage, 102);
+    stage->device.marker = 0;
+    stage_unserved(stage, 103);
+    stage->ring_len[3] = 0;
+    stage_unserved(stage, 104);
+    stage->pipe_len = 1020;
+    stage_unserved(stage, 105);
+    stage->pack_len = 8;
+    CHECK_EQ(stage_turn(stage), IND_SERVED);
+    stage_free(stage);
 }
 
 /* Kernels (first, words) twice and a code count, zeros for code. */
@@ -190,22 +190,22 @@ static void packs(void)
 /* The most kernels and the most code, and one more of each. */
 static void largest_pack(void)
 {
-    struct bench *bench = bench_new(0);
+    struct stage *stage = stage_new(0);
 
     for (uint32_t kernels = 16; kernels <= 17; kernels++) {
         for (uint32_t words = 16384; words <= 16385; words++) {
-            put_word(bench->pack, kernels);
+            put_word(stage->pack, kernels);
             for (uint32_t i = 0; i < kernels; i++) {
-                put_word(bench->pack + 4 + 8 * i, i);
-                put_word(bench->pack + 8 + 8 * i, words - i);
+                put_word(stage->pack + 4 + 8 * i, i);
+                put_word(stage->pack + 8 + 8 * i, words - i);
             }
-            put_word(bench->pack + 4 + 8 * kernels, words);
-            bench->pack_len = 8 + 8 * kernels + 4 * words;
-            CHECK_EQ(bench_turn(bench),
+            put_word(stage->pack + 4 + 8 * kernels, words);
+            stage->pack_len = 8 + 8 * kernels + 4 * words;
+            CHECK_EQ(stage_turn(stage),
                      kernels == 16 && words == 16384 ? IND_IDLE : 105);
         }
     }
-    bench_free(bench);
+    stage_free(stage);
 }
 
 /* No memory and no rings but ring 0: null pointers are never followed. */
@@ -213,26 +213,26 @@ static void nothing_lent(void)
 {
     const uint32_t words[] = {s_shape(0, 0, 0, 0), WFI};
     const uint8_t *ring[4] = {NULL, NULL, NULL, NULL};
-    struct bench *bench = bench_new(0);
+    struct stage *stage = stage_new(0);
 
-    pack_one(bench, words, 2);
-    push(bench, 0, head(0x01, 8, 0, 0), 0, 0, 0);
-    push(bench, 0, head(0x02, 0, 0, 0), 0, 0, 0);
-    push(bench, 0, head(0x23, 0, 0, 0), 0, 0, 0);
-    push(bench, 0, head(0x20, 0, 0, 0), 1, 1, 0);
-    ring[0] = bench->ring[0];
+    pack_one(stage, words, 2);
+    push(stage, 0, head(0x01, 8, 0, 0), 0, 0, 0);
+    push(stage, 0, head(0x02, 0, 0, 0), 0, 0, 0);
+    push(stage, 0, head(0x23, 0, 0, 0), 0, 0, 0);
+    push(stage, 0, head(0x20, 0, 0, 0), 1, 1, 0);
+    ring[0] = stage->ring[0];
     for (uint32_t turn = 0; turn < 5; turn++) {
-        CHECK_EQ(ind_turn(&bench->device, NULL, 0, ring, bench->ring_len,
-                          bench->pack, bench->pack_len, bench->pipe,
-                          bench->pipe_len, &bench->report),
+        CHECK_EQ(ind_turn(&stage->device, NULL, 0, ring, stage->ring_len,
+                          stage->pack, stage->pack_len, stage->pipe,
+                          stage->pipe_len, &stage->report),
                  turn == 4 ? IND_IDLE : IND_SERVED);
-        CHECK_EQ(bench->report.outcome, turn == 3 ? 13 : 0);
+        CHECK_EQ(stage->report.outcome, turn == 3 ? 13 : 0);
     }
-    CHECK_EQ(ind_turn(&bench->device, NULL, 0, ring, bench->ring_len, NULL, 0,
-                      bench->pipe, bench->pipe_len, &bench->report), 105);
-    CHECK_EQ(ind_turn(&bench->device, NULL, 0, ring, bench->ring_len, NULL, 0,
-                      NULL, 0, &bench->report), 104);
-    bench_free(bench);
+    CHECK_EQ(ind_turn(&stage->device, NULL, 0, ring, stage->ring_len, NULL, 0,
+                      stage->pipe, stage->pipe_len, &stage->report), 105);
+    CHECK_EQ(ind_turn(&stage->device, NULL, 0, ring, stage->ring_len, NULL, 0,
+                      NULL, 0, &stage->report), 104);
+    stage_free(stage);
 }
 
 static uint32_t next(uint64_t *seed)
@@ -253,7 +253,7 @@ static uint32_t odd_number(uint64_t *seed)
     return pick % 4 == 0 ? next(seed) : edges[pick / 4 % 16];
 }
 
-static void odd_command(struct bench *bench, uint32_t ring, uint64_t *seed)
+static void odd_command(struct stage *stage, uint32_t ring, uint64_t *seed)
 {
     static const uint32_t opcodes[] = {
         0x01, 0x02, 0x10, 0x11, 0x20, 0x22, 0x23, 0x30
@@ -264,10 +264,10 @@ static void odd_command(struct bench *bench, uint32_t ring, uint64_t *seed)
     if (next(seed) % 4 != 0)
         flags &= 3;
     uint32_t first = head(opcodes[next(seed) % 8], flags, next(seed) % 66, len);
-    push(bench, ring, first, odd_number(seed), odd_number(seed),
+    push(stage, ring, first, odd_number(seed), odd_number(seed),
          odd_number(seed));
     for (uint32_t i = next(seed) % 3; i > 0; i--)
-        push_word(bench, ring, odd_number(seed));
+        push_word(stage, ring, odd_number(seed));
 }
 
 /* Any state and any bytes: nothing is read or written out of bounds (the
@@ -277,25 +277,25 @@ static void odd_states(void)
     uint64_t seed = 1;
 
     for (uint32_t round = 0; round < 300; round++) {
-        struct bench *bench = bench_new(64);
+        struct stage *stage = stage_new(64);
         uint32_t code[8];
         for (uint32_t i = 0; i < 8; i++)
             code[i] = next(&seed);
-        pack_one(bench, code, 8);
+        pack_one(stage, code, 8);
         for (uint32_t i = 0; i < 40; i++)
-            odd_command(bench, i % 4, &seed);
+            odd_command(stage, i % 4, &seed);
         if (round % 3 == 0) { /* one word of the state made odd */
-            uint8_t *state = (uint8_t *)&bench->device;
+            uint8_t *state = (uint8_t *)&stage->device;
             uint32_t odd = odd_number(&seed);
-            uint32_t at = next(&seed) % (sizeof bench->device / 4);
+            uint32_t at = next(&seed) % (sizeof stage->device / 4);
             memcpy(state + 4 * at, &odd, 4);
         }
-        struct bench *before = bench_copy(bench);
-        while (bench_turn(bench) == IND_SERVED)
-            bench_keep(before, bench);
-        CHECK(bench_same(before, bench));
-        bench_free(before);
-        bench_free(bench);
+        struct stage *before = stage_copy(stage);
+        while (stage_turn(stage) == IND_SERVED)
+            stage_keep(before, stage);
+        CHECK(stage_same(before, stage));
+        stage_free(before);
+        stage_free(stage);
     }
 }
 

@@ -1,4 +1,4 @@
-#include "packs.h"
+#include "cases/kernels/packs.h"
 
 void put_word(uint8_t *bytes, uint32_t word)
 {

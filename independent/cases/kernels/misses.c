@@ -1,6 +1,6 @@
-#include "misses.h"
+#include "cases/kernels/misses.h"
 
-#include "table.h"
+#include "cases/kernels/table.h"
 
 /* A row and the bits of it whose change makes a word that is not listed, or is
  * another row's. */

@@ -1,18 +1,18 @@
 /* The selftest: P1 to P12 and the tempting errors here, the rest by file. */
-#include "bench.h"
+#include "selftest/stage.h"
 
 #include <stdio.h>
 
 /* SET_FB base 0, stride 16, then a fill at 4; gives the fill's outcome. */
-static uint32_t fill_at_4(struct bench *bench, uint32_t width)
+static uint32_t fill_at_4(struct stage *stage, uint32_t width)
 {
-    CHECK_EQ(serve(bench, head(0x30, 0, 0, 0), 0, 16, 0), 0);
-    return serve(bench, head(0x10, 0, 0, 0), 4, wide_high(width, 3), 0xC0FFEE);
+    CHECK_EQ(serve(stage, head(0x30, 0, 0, 0), 0, 16, 0), 0);
+    return serve(stage, head(0x10, 0, 0, 0), 4, wide_high(width, 3), 0xC0FFEE);
 }
 
 static void p1_to_p3(void)
 {
-    struct bench *p1 = bench_new(64), *p2 = bench_new(40), *p3 = bench_new(64);
+    struct stage *p1 = stage_new(64), *p2 = stage_new(40), *p3 = stage_new(64);
 
     CHECK_EQ(fill_at_4(p1, 2), 0);
     for (uint32_t at = 0; at < 64; at += 4) {
@@ -24,9 +24,9 @@ static void p1_to_p3(void)
     CHECK_EQ(fill_at_4(p3, 5), 7);
     for (uint32_t at = 0; at < 40; at += 4)
         CHECK_EQ(get_word(p2->memory + at) | get_word(p3->memory + at), 0);
-    bench_free(p1);
-    bench_free(p2);
-    bench_free(p3);
+    stage_free(p1);
+    stage_free(p2);
+    stage_free(p3);
 }
 
 /* Runs a kernel of one word on a thread and an empty window of no memory. */
@@ -60,14 +60,14 @@ static void p4_to_p7(void)
 static void p8_and_p9(void)
 {
     const uint32_t p8[] = {0xFE502E0D, WFI}, p9[] = {0x0000000E};
-    struct bench *bench = bench_new(64);
+    struct stage *stage = stage_new(64);
     struct ind_thread thread;
 
-    pack_one(bench, p8, 2);
-    CHECK_EQ(serve(bench, head(0x20, 0, 0, 0), 1, 1, 0), 13);
-    pack_one(bench, p9, 1);
-    CHECK_EQ(serve(bench, head(0x20, 0, 0, 0), 1, 1, 0), 14);
-    bench_free(bench);
+    pack_one(stage, p8, 2);
+    CHECK_EQ(serve(stage, head(0x20, 0, 0, 0), 1, 1, 0), 13);
+    pack_one(stage, p9, 1);
+    CHECK_EQ(serve(stage, head(0x20, 0, 0, 0), 1, 1, 0), 14);
+    stage_free(stage);
 
     ind_thread_start(&thread, 0, 0, 1, 1);
     while (run_word(&thread, p9[0]) == IND_GOES_ON)
@@ -93,62 +93,62 @@ static void p10(void)
 
 static void p11(void)
 {
-    struct bench *bench = bench_new(0);
+    struct stage *stage = stage_new(0);
 
-    bench->device.marker = 1;
+    stage->device.marker = 1;
     for (uint32_t ring = 0; ring < 4; ring++) {
-        push(bench, ring, head(0x22, 0, 0, 0), 0, 0, 0);
-        push(bench, ring, head(0x22, 0, 0, 0), 0, 0, 0);
+        push(stage, ring, head(0x22, 0, 0, 0), 0, 0, 0);
+        push(stage, ring, head(0x22, 0, 0, 0), 0, 0, 0);
     }
     for (uint32_t i = 0; i < 8; i++) {
-        CHECK_EQ(bench_turn(bench), IND_SERVED);
-        CHECK_EQ(bench->report.ring, (i + 1) % 4);
-        CHECK_EQ(bench->device.marker, (i + 2) % 4);
+        CHECK_EQ(stage_turn(stage), IND_SERVED);
+        CHECK_EQ(stage->report.ring, (i + 1) % 4);
+        CHECK_EQ(stage->device.marker, (i + 2) % 4);
     }
-    CHECK_EQ(bench_turn(bench), IND_IDLE);
-    bench_free(bench);
+    CHECK_EQ(stage_turn(stage), IND_IDLE);
+    stage_free(stage);
 }
 
 static void p12(void)
 {
-    struct bench *bench = bench_new(0);
+    struct stage *stage = stage_new(0);
 
-    push(bench, 0, head(0x22, 4, 1, 0), 0, 0, 0);
-    push_word(bench, 0, 1);
-    push(bench, 0, head(0x22, 2, 2, 0), 0, 0, 0);
-    push(bench, 1, head(0x22, 4, 2, 0), 0, 0, 0);
-    push_word(bench, 1, 1);
-    push(bench, 1, head(0x22, 2, 1, 0), 0, 0, 0);
-    bench_unserved(bench, IND_IDLE);
-    bench_free(bench);
+    push(stage, 0, head(0x22, 4, 1, 0), 0, 0, 0);
+    push_word(stage, 0, 1);
+    push(stage, 0, head(0x22, 2, 2, 0), 0, 0, 0);
+    push(stage, 1, head(0x22, 4, 2, 0), 0, 0, 0);
+    push_word(stage, 1, 1);
+    push(stage, 1, head(0x22, 2, 1, 0), 0, 0, 0);
+    stage_unserved(stage, IND_IDLE);
+    stage_free(stage);
 }
 
 /* A BARRIER with a reserved flag, waiting for what never comes: served. */
 static void faulty_header_does_not_wait(void)
 {
-    struct bench *bench = bench_new(0);
+    struct stage *stage = stage_new(0);
 
-    push(bench, 0, head(0x22, 0x14, 7, 0), 0, 0, 0);
-    push_word(bench, 0, 1000);
-    CHECK_EQ(bench_serve(bench), 2);
-    CHECK_EQ(bench->device.rings[0].cursor, 20);
-    bench_free(bench);
+    push(stage, 0, head(0x22, 0x14, 7, 0), 0, 0, 0);
+    push_word(stage, 0, 1000);
+    CHECK_EQ(stage_serve(stage), 2);
+    CHECK_EQ(stage->device.rings[0].cursor, 20);
+    stage_free(stage);
 }
 
 static void failed_command_signals(void)
 {
     const uint32_t stop[] = {0};
-    struct bench *bench = bench_new(0);
+    struct stage *stage = stage_new(0);
 
-    pack_one(bench, stop, 1);
-    CHECK_EQ(serve(bench, head(0x01, 0x0A, 9, 0), 2, 0, 0), 6);
-    CHECK_EQ(bench->report.fence, 1);
-    CHECK_EQ(serve(bench, head(0x20, 2, 9, 0), 0, 1, 0), 10);
-    CHECK_EQ(bench->report.fence, 2);
-    CHECK_EQ(serve(bench, head(0x20, 2, 9, 0), 1, 1, 0), 11);
-    CHECK_EQ(bench->report.fence, 3);
-    CHECK_EQ(bench->device.slots[9], 3);
-    bench_free(bench);
+    pack_one(stage, stop, 1);
+    CHECK_EQ(serve(stage, head(0x01, 0x0A, 9, 0), 2, 0, 0), 6);
+    CHECK_EQ(stage->report.fence, 1);
+    CHECK_EQ(serve(stage, head(0x20, 2, 9, 0), 0, 1, 0), 10);
+    CHECK_EQ(stage->report.fence, 2);
+    CHECK_EQ(serve(stage, head(0x20, 2, 9, 0), 1, 1, 0), 11);
+    CHECK_EQ(stage->report.fence, 3);
+    CHECK_EQ(stage->device.slots[9], 3);
+    stage_free(stage);
 }
 
 /* s5 counts down from 2047 in rounds of two steps; WFI is the last step. */
@@ -161,13 +161,13 @@ static void wfi_as_step_4096(void)
         WFI                              /* step 4096 */
     };
     const uint32_t later[] = {words[0], MEMBAR, words[1], words[2], WFI};
-    struct bench *bench = bench_new(0);
+    struct stage *stage = stage_new(0);
 
-    pack_one(bench, words, 4);
-    CHECK_EQ(serve(bench, head(0x20, 0, 0, 0), 2, 2, 0), 0);
-    pack_one(bench, later, 5);
-    CHECK_EQ(serve(bench, head(0x20, 0, 0, 0), 2, 2, 0), 14);
-    bench_free(bench);
+    pack_one(stage, words, 4);
+    CHECK_EQ(serve(stage, head(0x20, 0, 0, 0), 2, 2, 0), 0);
+    pack_one(stage, later, 5);
+    CHECK_EQ(serve(stage, head(0x20, 0, 0, 0), 2, 2, 0), 14);
+    stage_free(stage);
 }
 
 int main(void)

@@ -6,8 +6,8 @@
 #include "cases/cases.h"
 #include "cases/number.h"
 #include "cases/tally.h"
-#include "image.h"
-#include "records.h"
+#include "device/image.h"
+#include "records/records.h"
 
 enum { LONGEST = 80000 }; /* a body's bytes: the whole set is to stay small */
 

@@ -1,4 +1,4 @@
-#include "chance.h"
+#include "cases/kernels/chance.h"
 
 const uint32_t edges[EDGES] = {
     0x00000000, 0x00000001, 0x00000002, 0x0000001F, 0x00000020, 0x0000007F,

@@ -1,6 +1,6 @@
-#include "maker.h"
+#include "cases/kernels/maker.h"
 
-#include "table.h"
+#include "cases/kernels/table.h"
 
 void emit(struct maker *m, uint32_t word)
 {

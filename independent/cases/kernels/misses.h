@@ -2,7 +2,7 @@
 #ifndef MISSES_H
 #define MISSES_H
 
-#include "chance.h"
+#include "cases/kernels/chance.h"
 
 /* A listed word with any fields. */
 uint32_t listed_word(struct chance *c);

@@ -1,4 +1,4 @@
-#include "table.h"
+#include "cases/kernels/table.h"
 
 #define F3(n) ((uint32_t)(n) << 12)
 #define F7(n) ((uint32_t)(n) << 25)

@@ -1,8 +1,8 @@
 /* The pack of a scene. */
+#include "cases/kernels/packs.h"
+#include "cases/kernels/table.h"
 #include "cases/scene.h"
-#include "kernels/packs.h"
-#include "kernels/table.h"
-#include "parts.h"
+#include "device/parts.h"
 
 /* Most kernels are short; one in some ten takes its time or many words. */
 static enum style any_style(struct scene *s)

@@ -2,7 +2,7 @@
 #ifndef STYLES_H
 #define STYLES_H
 
-#include "chance.h"
+#include "cases/kernels/chance.h"
 
 enum { KERNEL_WORDS_MOST = 2048 };
 

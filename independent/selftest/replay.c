@@ -1,10 +1,10 @@
 /* The replay job: the whole case's lines, and each number it refuses with. */
-#include "bench.h"
+#include "selftest/stage.h"
 
 #include <stdio.h>
 #include <string.h>
 
-#include "job.h"
+#include "device/job.h"
 
 struct input {
     uint8_t bytes[61441];

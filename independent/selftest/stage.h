@@ -1,9 +1,9 @@
 /* What the selftest's files share: checks that end the run at the first
- * failure, instruction words, and a bench that lends a device its pieces. */
-#ifndef IND_BENCH_H
-#define IND_BENCH_H
+ * failure, instruction words, and a stage that lends a device its pieces. */
+#ifndef IND_STAGE_H
+#define IND_STAGE_H
 
-#include "device.h"
+#include "device/device.h"
 
 #define CHECK_EQ(got, want) check_equal((got), (want), #got, __FILE__, __LINE__)
 #define CHECK(holds) CHECK_EQ((holds) ? 1 : 0, 1)
@@ -31,9 +31,9 @@ uint32_t i_shape(uint32_t opcode, uint32_t funct3, uint32_t rd, uint32_t rs1,
 uint32_t s_shape(uint32_t funct3, uint32_t rs1, uint32_t rs2, int32_t imm);
 uint32_t b_shape(uint32_t funct3, uint32_t rs1, uint32_t rs2, int32_t imm);
 
-/* ---- the bench ---- */
+/* ---- the stage ---- */
 
-struct bench {
+struct stage {
     struct ind_device device;
     uint8_t memory[IND_MEMORY_MOST + 4];
     size_t memory_len;
@@ -48,44 +48,44 @@ struct bench {
 
 /* A fresh device; all four windows are (0, length), and so is the memory. The
  * pack has no kernel, the rings are empty, the pipe holds AA bytes. */
-struct bench *bench_new(uint32_t length);
-struct bench *bench_copy(const struct bench *bench);
-void bench_free(struct bench *bench);
+struct stage *stage_new(uint32_t length);
+struct stage *stage_copy(const struct stage *stage);
+void stage_free(struct stage *stage);
 
 /* One turn on copies that are exactly as long as they are said to be. */
-uint32_t bench_turn(struct bench *bench);
+uint32_t stage_turn(struct stage *stage);
 
 /* A turn that must be served on ring 0; gives the outcome. */
-uint32_t bench_serve(struct bench *bench);
+uint32_t stage_serve(struct stage *stage);
 
 /* A turn that must give this status, idle or a refusal: it reports nothing
  * else and changes nothing. */
-void bench_unserved(struct bench *bench, uint32_t status);
+void stage_unserved(struct stage *stage, uint32_t status);
 
 /* Takes over device, memory and pipe as they are now. */
-void bench_keep(struct bench *kept, const struct bench *bench);
+void stage_keep(struct stage *kept, const struct stage *stage);
 
 /* Device, memory and pipe are the same in both. */
-int bench_same(const struct bench *a, const struct bench *b);
+int stage_same(const struct stage *a, const struct stage *b);
 
 /* The first word of a header. */
 uint32_t head(uint32_t opcode, uint32_t flags, uint32_t rdst, uint32_t len);
 uint32_t wide_high(uint32_t width, uint32_t height);
 
-void push_word(struct bench *bench, uint32_t ring, uint32_t word);
-void push(struct bench *bench, uint32_t ring, uint32_t first, uint32_t arg0,
+void push_word(struct stage *stage, uint32_t ring, uint32_t word);
+void push(struct stage *stage, uint32_t ring, uint32_t first, uint32_t arg0,
           uint32_t arg1, uint32_t arg2);
 
 /* Pushes one command of 16 bytes on ring 0 and serves it. */
-uint32_t serve(struct bench *bench, uint32_t first, uint32_t arg0,
+uint32_t serve(struct stage *stage, uint32_t first, uint32_t arg0,
                uint32_t arg1, uint32_t arg2);
 
 /* The same, and checks the outcome and that memory, pipe and frame stay. */
-void serve_unchanged(struct bench *bench, uint32_t outcome, uint32_t first,
+void serve_unchanged(struct stage *stage, uint32_t outcome, uint32_t first,
                      uint32_t arg0, uint32_t arg1, uint32_t arg2);
 
 /* A pack of one kernel that is all its code. */
-void pack_one(struct bench *bench, const uint32_t *words, uint32_t count);
+void pack_one(struct stage *stage, const uint32_t *words, uint32_t count);
 
 /* ---- the files of the selftest ---- */
 

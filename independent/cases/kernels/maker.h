@@ -2,7 +2,7 @@
 #ifndef MAKER_H
 #define MAKER_H
 
-#include "chance.h"
+#include "cases/kernels/chance.h"
 
 /* Registers with a part of their own; the others are for values. */
 enum {

@@ -1,5 +1,5 @@
-#include "maker.h"
-#include "table.h"
+#include "cases/kernels/maker.h"
+#include "cases/kernels/table.h"
 
 uint32_t place_for(struct maker *m, uint32_t bytes)
 {

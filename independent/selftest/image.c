@@ -1,9 +1,9 @@
 /* The device as bytes: lengths, what a call writes and what it leaves. */
-#include "bench.h"
+#include "selftest/stage.h"
 
 #include <string.h>
 
-#include "image.h"
+#include "device/image.h"
 
 enum { HELD = 12, NEXT = 28, MARKER = 368 };
 

@@ -1,6 +1,6 @@
-#include "maker.h"
-#include "misses.h"
-#include "table.h"
+#include "cases/kernels/maker.h"
+#include "cases/kernels/misses.h"
+#include "cases/kernels/table.h"
 
 static uint32_t start_address(struct maker *m)
 {
