@@ -1,8 +1,6 @@
 /* A command's shape in its ring, and its header faults (1 to 4). */
 #include "parts.h"
 
-enum { HEADER_BYTES = 16 };
-
 /* The command table: which opcodes there are, and the payload bit of each. */
 static const struct {
     uint32_t opcode, payload;
@@ -31,17 +29,17 @@ int ind_command_whole(const uint8_t *ring, size_t ring_len, uint32_t cursor,
 {
     size_t left = ring_len - cursor;
 
-    if (left < HEADER_BYTES)
+    if (left < IND_HEADER_BYTES)
         return 0;
     read_header(ring + cursor, command);
     uint32_t waits = (command->flags & FLAG_WAIT) != 0;
     uint32_t pays = (command->flags & FLAG_PAYLOAD) != 0;
-    uint32_t payload_at = HEADER_BYTES + (waits ? WORD : 0);
+    uint32_t payload_at = IND_HEADER_BYTES + (waits ? WORD : 0);
     command->size = payload_at + (pays ? WORD * command->len : 0);
     if (left < command->size)
         return 0;
     if (waits)
-        command->target = ind_get(ring + cursor + HEADER_BYTES, WORD);
+        command->target = ind_get(ring + cursor + IND_HEADER_BYTES, WORD);
     if (pays)
         command->payload = ring + cursor + payload_at;
     return 1;

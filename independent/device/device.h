@@ -9,9 +9,16 @@
 enum {
     IND_MEMORY_MOST = 1048576, /* bytes */
     IND_RING_MOST = 65536,     /* bytes */
-    IND_PIPE_LEAST = 1020,     /* bytes: 255 words, the longest READ_MEM */
+    IND_HEADER_BYTES = 16,     /* of a command */
+    IND_LEN_MOST = 255,        /* words of a transfer */
+    IND_PIPE_LEAST = 1020,     /* bytes: the longest READ_MEM */
+    IND_EXTENT_MOST = 65535,   /* pixels: width, and height */
+    IND_STRIDE_LEAST = 4,      /* bytes */
+    IND_STRIDE_MOST = 65536,
     IND_KERNELS_MOST = 16,
     IND_CODE_MOST = 16384,     /* words */
+    IND_PAIR_BYTES = 8,        /* of a window, or of a kernel in its pack */
+    IND_PACK_LEAST = 8,        /* bytes: two counts of 0 */
     IND_SIDE_MOST = 64,        /* groups, and threads in a group */
     IND_STEP_LIMIT = 4096,     /* steps a thread may take */
     IND_RINGS = 4,
@@ -47,7 +54,8 @@ enum {
     IND_NOT_LISTED = 11,
     IND_BAD_PLACE = 12,
     IND_BAD_ACCESS = 13,
-    IND_STEPS_SPENT = 14
+    IND_STEPS_SPENT = 14,
+    IND_OUTCOMES
 };
 
 /* What one step answers besides 11 to 14. */

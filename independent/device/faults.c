@@ -1,8 +1,6 @@
 /* Outcomes 5 to 10. Each function gives the smallest that applies, or 0. */
 #include "parts.h"
 
-enum { STRIDE_LEAST = 4, STRIDE_MOST = 65536 };
-
 struct ind_size ind_rectangle_size(const struct ind_command *command)
 {
     uint32_t packed = command->opcode == BLIT ? command->arg2 : command->arg1;
@@ -25,7 +23,7 @@ uint32_t ind_frame_fault(const struct ind_frame *frame, uint32_t window_length)
         return IND_NOT_FOURS;
     if (frame->base >= window_length)
         return IND_OUTSIDE_WINDOW;
-    if (frame->stride < STRIDE_LEAST || frame->stride > STRIDE_MOST
+    if (frame->stride < IND_STRIDE_LEAST || frame->stride > IND_STRIDE_MOST
         || frame->format != 0)
         return IND_BAD_FRAME;
     return IND_DONE;

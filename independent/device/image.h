@@ -6,11 +6,31 @@
 
 #include "device.h"
 
+/* Words of one ring in the image, which starts with the four rings. */
 enum {
-    IND_IMAGE_BYTES = 372,  /* 93 words */
-    IND_REPORT_BYTES = 24,  /* 6 words */
-    IND_WINDOWS_BYTES = 32, /* four pairs */
-    IND_IMAGE_RING = 28     /* bytes of one ring in the image */
+    IND_IMAGE_WINDOW_START, IND_IMAGE_WINDOW_LENGTH, IND_IMAGE_CURSOR,
+    IND_IMAGE_HELD, IND_IMAGE_BASE, IND_IMAGE_STRIDE, IND_IMAGE_FORMAT,
+    IND_IMAGE_RING_WORDS
+};
+
+/* Words of the image behind the rings. */
+enum {
+    IND_IMAGE_SLOTS = IND_RINGS * IND_IMAGE_RING_WORDS,
+    IND_IMAGE_MARKER = IND_IMAGE_SLOTS + IND_SLOTS,
+    IND_IMAGE_WORDS
+};
+
+/* Words of the report. */
+enum {
+    IND_REPORT_STATUS, IND_REPORT_RING, IND_REPORT_OUTCOME, IND_REPORT_FENCE,
+    IND_REPORT_WORDS_READ, IND_REPORT_IRQ,
+    IND_REPORT_WORDS
+};
+
+enum {
+    IND_IMAGE_BYTES = 4 * IND_IMAGE_WORDS,
+    IND_REPORT_BYTES = 4 * IND_REPORT_WORDS,
+    IND_WINDOWS_BYTES = IND_PAIR_BYTES * IND_RINGS
 };
 
 /* What a call answers to a piece of the wrong length: it changes nothing. */

@@ -1,8 +1,6 @@
 /* Kernels: a thread, its steps, and a whole dispatch. */
 #include "parts.h"
 
-enum { VECTOR_BYTES = WORD * IND_VECTOR_WORDS };
-
 void ind_thread_start(struct ind_thread *thread, uint32_t group,
                       uint32_t thread_in_group, uint32_t threads,
                       uint32_t groups)

@@ -1,10 +1,11 @@
-/* What the files of the device share with each other and with nobody else. */
+/* What the files of the device share with each other. The cases write commands
+ * by it. */
 #ifndef IND_PARTS_H
 #define IND_PARTS_H
 
 #include "device.h"
 
-enum { WORD = 4 }; /* bytes of a 32-bit number */
+enum { WORD = 4, VECTOR_BYTES = WORD * IND_VECTOR_WORDS }; /* bytes */
 
 /* What a turn is lent, in one piece. */
 struct ind_lent {

@@ -2,8 +2,11 @@
 
 #include <string.h>
 
-#include "cases/kernels/packs.h"
+#include "cases/words.h"
 #include "device/image.h"
+#include "device/parts.h"
+
+enum { PIECE_HEAD = 2 * WORD }; /* bytes: length and stored */
 
 /* A piece of a record: which, and of the call before or after it was made. */
 struct part {
@@ -43,7 +46,7 @@ static size_t stored(const struct piece *piece)
 
 static void write_word(FILE *out, size_t word)
 {
-    uint8_t bytes[4];
+    uint8_t bytes[WORD];
 
     put_word(bytes, (uint32_t)word);
     fwrite(bytes, 1, sizeof bytes, out);
@@ -52,13 +55,13 @@ static void write_word(FILE *out, size_t word)
 size_t record_write(FILE *out, const struct call *before,
                     const struct call *after, size_t most)
 {
-    size_t count, body = 4;
+    size_t count, body = WORD;
     const struct part *parts = parts_of(before->kind, &count);
     const struct piece *pieces[COUNT(turn_parts)];
 
     for (size_t i = 0; i < count; i++) {
         pieces[i] = &(parts[i].after ? after : before)->pieces[parts[i].piece];
-        body += 8 + stored(pieces[i]);
+        body += PIECE_HEAD + stored(pieces[i]);
     }
     if (body > most || body > RECORD_MOST)
         return 0;
@@ -70,17 +73,17 @@ size_t record_write(FILE *out, const struct call *before,
         write_word(out, bytes);
         fwrite(pieces[i]->bytes, 1, bytes, out);
     }
-    return body + 4;
+    return body + WORD;
 }
 
 /* Takes one piece from the front of a body; 0 if it is none. */
 static int take_piece(const uint8_t **at, const uint8_t *end,
                       struct piece *piece)
 {
-    if (end - *at < 8)
+    if (end - *at < PIECE_HEAD)
         return 0;
-    uint32_t length = get_word(*at), bytes = get_word(*at + 4);
-    *at += 8;
+    uint32_t length = get_word(*at), bytes = get_word(*at + WORD);
+    *at += PIECE_HEAD;
     if (length > piece->most || bytes > length || end - *at < (long)bytes)
         return 0;
     piece_zeros(piece, length);
@@ -120,24 +123,24 @@ static void complete(struct call *before, struct call *after)
     }
     if (before->kind == CALL_TURN) /* a turn answers its report's first word */
         memcpy(after->pieces[PIECE_ANSWER].bytes,
-               after->pieces[PIECE_REPORT].bytes, 4);
+               after->pieces[PIECE_REPORT].bytes, WORD);
 }
 
 int record_read(FILE *in, struct call *before, struct call *after)
 {
     static uint8_t body[RECORD_MOST];
-    uint8_t word[4];
+    uint8_t word[WORD];
     size_t got = fread(word, 1, sizeof word, in);
 
     if (got == 0 && feof(in))
         return 0;
     uint32_t length = got == sizeof word ? get_word(word) : 0;
-    if (length < 4 || length > RECORD_MOST
+    if (length < WORD || length > RECORD_MOST
         || fread(body, 1, length, in) != length || get_word(body) > CALL_TURN)
         return -1;
     call_start(before, (enum call_kind)get_word(body));
     call_start(after, before->kind);
-    if (!take_pieces(body + 4, body + length, before, after))
+    if (!take_pieces(body + WORD, body + length, before, after))
         return -1;
     complete(before, after);
     return 1;

@@ -5,7 +5,7 @@
 
 static void fresh_devices(void)
 {
-    const uint32_t good[4][2] = {{0, 16}, {16, 0}, {8, 8}, {0, 0}};
+    const uint32_t good[IND_RINGS][2] = {{0, 16}, {16, 0}, {8, 8}, {0, 0}};
     const uint32_t bad[6][2] = {
         {0, 20}, {20, 0}, {2, 4}, {0, 6}, {0xFFFFFFFC, 8}, {4, 0xFFFFFFFC}
     };
@@ -16,19 +16,19 @@ static void fresh_devices(void)
     CHECK_EQ(ind_fresh(&device, 16, good), 0);
     CHECK_EQ(device.rings[2].window_start, 8);
     CHECK_EQ(device.rings[2].window_length, 8);
-    for (uint32_t i = 0; i < 4; i++)
+    for (uint32_t i = 0; i < IND_RINGS; i++)
         device.rings[i].window_start = device.rings[i].window_length = 0;
     CHECK_EQ(memcmp(&device, &empty, sizeof device), 0);
-    for (uint32_t i = 0; i < 6 * 4; i++) {
-        uint32_t windows[4][2];
+    for (uint32_t i = 0; i < 6 * IND_RINGS; i++) {
+        uint32_t windows[IND_RINGS][2];
         memcpy(windows, good, sizeof windows);
-        memcpy(windows[i % 4], bad[i / 4], sizeof windows[0]);
+        memcpy(windows[i % IND_RINGS], bad[i / IND_RINGS], sizeof windows[0]);
         memset(&device, 0xEE, sizeof device);
         CHECK_EQ(ind_fresh(&device, 16, (const uint32_t(*)[2])windows), 101);
         CHECK_EQ(memcmp(&device, &empty, sizeof device), 0);
     }
-    CHECK_EQ(ind_fresh(&device, 1048576, good), 0);
-    CHECK_EQ(ind_fresh(&device, 1048577, good), 101);
+    CHECK_EQ(ind_fresh(&device, IND_MEMORY_MOST, good), 0);
+    CHECK_EQ(ind_fresh(&device, IND_MEMORY_MOST + 1, good), 101);
     CHECK_EQ(ind_fresh(&device, UINT64_MAX, good), 101);
     CHECK_EQ(ind_fresh(&device, 17, good), 0);
 }
@@ -47,7 +47,7 @@ static void refusals_101(void)
     struct stage *stage = would_serve();
     struct ind_ring *ring = &stage->device.rings[3];
 
-    stage->memory_len = 1048577;
+    stage->memory_len = IND_MEMORY_MOST + 1;
     stage_unserved(stage, 101);
     stage->memory_len = 63;
     stage_unserved(stage, 101);
@@ -65,7 +65,7 @@ static void refusals_101(void)
     ring->window_length = 0;
     stage_unserved(stage, 101);
     ring->window_start = 64;
-    stage->memory_len = 1048576;
+    stage->memory_len = IND_MEMORY_MOST;
     CHECK_EQ(stage_turn(stage), IND_SERVED);
     stage_free(stage);
 }
@@ -76,10 +76,10 @@ static void refusals_102(void)
     struct ind_ring *ring = &stage->device.rings[2];
     const struct ind_frame bad[] = {
         {1, 2, 16, 0}, {1, 0, 18, 0}, {1, 64, 16, 0}, {1, 0, 0, 0},
-        {1, 0, 65540, 0}, {1, 0, 16, 1}, {0xFFFFFFFF, 0, 16, 1}
+        {1, 0, IND_STRIDE_MOST + 4, 0}, {1, 0, 16, 1}, {0xFFFFFFFF, 0, 16, 1}
     };
     const struct ind_frame good[] = {
-        {0, 2, 18, 1}, {1, 60, 65536, 0}, {2, 0, 4, 0}
+        {0, 2, 18, 1}, {1, 60, IND_STRIDE_MOST, 0}, {2, 0, IND_STRIDE_LEAST, 0}
     };
 
     stage->device.marker = 4;
@@ -87,7 +87,7 @@ static void refusals_102(void)
     stage->device.marker = 0xFFFFFFFF;
     stage_unserved(stage, 102);
     stage->device.marker = 3;
-    ring->cursor = 65537;
+    ring->cursor = IND_RING_MOST + 1;
     stage_unserved(stage, 102);
     ring->cursor = 0;
     for (size_t i = 0; i < sizeof bad / sizeof bad[0]; i++) {
@@ -106,22 +106,22 @@ static void refusals_103_to_105(void)
 {
     struct stage *stage = would_serve();
 
-    stage->ring_len[1] = 65537;
+    stage->ring_len[1] = IND_RING_MOST + 1;
     stage_unserved(stage, 103);
-    stage->ring_len[1] = 65536;
+    stage->ring_len[1] = IND_RING_MOST;
     CHECK_EQ(stage_turn(stage), IND_SERVED);
     stage->ring_len[1] = 0;
     stage->device.rings[0].cursor = 17;
     stage_unserved(stage, 103);
     stage->device.rings[0].cursor = 0;
-    stage->pipe_len = 1019;
+    stage->pipe_len = IND_PIPE_LEAST - 1;
     stage_unserved(stage, 104);
-    stage->pipe_len = 1020;
-    stage->pack_len = 7;
+    stage->pipe_len = IND_PIPE_LEAST;
+    stage->pack_len = IND_PACK_LEAST - 1;
     stage_unserved(stage, 105);
-    stage->pack_len = 12;
+    stage->pack_len = IND_PACK_LEAST + 4;
     stage_unserved(stage, 105);
-    stage->pack_len = 8;
+    stage->pack_len = IND_PACK_LEAST;
     CHECK_EQ(stage_turn(stage), IND_SERVED);
     stage_free(stage);
 }
@@ -133,7 +133,7 @@ static void refusal_order(void)
 
     stage->memory_len = 60;
     stage->device.marker = 4;
-    stage->ring_len[3] = 65537;
+    stage->ring_len[3] = IND_RING_MOST + 1;
     stage->pipe_len = 0;
     stage->pack_len = 0;
     stage_unserved(stage, 101);
@@ -143,9 +143,9 @@ static void refusal_order(void)
     stage_unserved(stage, 103);
     stage->ring_len[3] = 0;
     stage_unserved(stage, 104);
-    stage->pipe_len = 1020;
+    stage->pipe_len = IND_PIPE_LEAST;
     stage_unserved(stage, 105);
-    stage->pack_len = 8;
+    stage->pack_len = IND_PACK_LEAST;
     CHECK_EQ(stage_turn(stage), IND_SERVED);
     stage_free(stage);
 }
@@ -192,18 +192,18 @@ static void largest_pack(void)
 {
     struct stage *stage = stage_new(0);
 
-    for (uint32_t kernels = 16; kernels <= 17; kernels++) {
-        for (uint32_t words = 16384; words <= 16385; words++) {
-            put_word(stage->pack, kernels);
-            for (uint32_t i = 0; i < kernels; i++) {
-                put_word(stage->pack + 4 + 8 * i, i);
-                put_word(stage->pack + 8 + 8 * i, words - i);
-            }
-            put_word(stage->pack + 4 + 8 * kernels, words);
-            stage->pack_len = 8 + 8 * kernels + 4 * words;
-            CHECK_EQ(stage_turn(stage),
-                     kernels == 16 && words == 16384 ? IND_IDLE : 105);
+    for (uint32_t more = 0; more < 4; more++) {
+        uint32_t kernels = IND_KERNELS_MOST + more % 2;
+        uint32_t words = IND_CODE_MOST + more / 2;
+        uint8_t *pairs = stage->pack + 4;
+        put_word(stage->pack, kernels);
+        for (uint32_t i = 0; i < kernels; i++) {
+            put_word(pairs + IND_PAIR_BYTES * i, i);
+            put_word(pairs + IND_PAIR_BYTES * i + 4, words - i);
         }
+        put_word(pairs + IND_PAIR_BYTES * kernels, words);
+        stage->pack_len = IND_PACK_LEAST + IND_PAIR_BYTES * kernels + 4 * words;
+        CHECK_EQ(stage_turn(stage), more == 0 ? IND_IDLE : 105);
     }
     stage_free(stage);
 }
@@ -212,7 +212,7 @@ static void largest_pack(void)
 static void nothing_lent(void)
 {
     const uint32_t words[] = {s_shape(0, 0, 0, 0), WFI};
-    const uint8_t *ring[4] = {NULL, NULL, NULL, NULL};
+    const uint8_t *ring[IND_RINGS] = {NULL, NULL, NULL, NULL};
     struct stage *stage = stage_new(0);
 
     pack_one(stage, words, 2);

@@ -25,7 +25,7 @@ static void header_faults(void)
             uint32_t want = !in_table(opcode) ? 1 : flags > 15 ? 2
                 : payload != (opcode == WRITE) ? 3
                 : (flags & 6) != 0 ? 4 : 99;
-            push(stage, 0, head(opcode, flags, 64, 1), 0, 0, 0);
+            push(stage, 0, head(opcode, flags, IND_SLOTS, 1), 0, 0, 0);
             if ((flags & 4) != 0)
                 push_word(stage, 0, 1000);
             if (payload)
@@ -46,10 +46,10 @@ static void slots_at_their_edges(void)
 {
     struct stage *stage = stage_new(16);
 
-    CHECK_EQ(serve(stage, head(BARRIER, EMIT, 63, 0), 0, 0, 0), 0);
-    CHECK_EQ(stage->device.slots[63], 1);
-    serve_unchanged(stage, 4, head(BARRIER, EMIT, 64, 0), 0, 0, 0);
-    CHECK_EQ(serve(stage, head(BARRIER, 0, 64, 0), 0, 0, 0), 0);
+    CHECK_EQ(serve(stage, head(BARRIER, EMIT, IND_SLOTS - 1, 0), 0, 0, 0), 0);
+    CHECK_EQ(stage->device.slots[IND_SLOTS - 1], 1);
+    serve_unchanged(stage, 4, head(BARRIER, EMIT, IND_SLOTS, 0), 0, 0, 0);
+    CHECK_EQ(serve(stage, head(BARRIER, 0, IND_SLOTS, 0), 0, 0, 0), 0);
     stage->device.slots[3] = 0xFFFFFFFE;
     CHECK_EQ(serve(stage, head(BARRIER, EMIT, 3, 0), 0, 0, 0), 0);
     CHECK_EQ(stage->report.fence, 0xFFFFFFFF);
@@ -92,10 +92,10 @@ static void frames(void)
     serve_unchanged(stage, 7, head(BLIT, 0, 0, 0), 0, 0, 0);
     serve_unchanged(stage, 8, head(FB, 0, 0, 0), 64, 0, 1);
     serve_unchanged(stage, 9, head(FB, 0, 0, 0), 60, 0, 0);
-    serve_unchanged(stage, 9, head(FB, 0, 0, 0), 60, 65540, 0);
+    serve_unchanged(stage, 9, head(FB, 0, 0, 0), 60, IND_STRIDE_MOST + 4, 0);
     serve_unchanged(stage, 9, head(FB, 0, 0, 0), 60, 4, 1);
-    CHECK_EQ(serve(stage, head(FB, 0, 0, 0), 60, 65536, 0), 0);
-    CHECK_EQ(stage->device.rings[0].frame.stride, 65536);
+    CHECK_EQ(serve(stage, head(FB, 0, 0, 0), 60, IND_STRIDE_MOST, 0), 0);
+    CHECK_EQ(stage->device.rings[0].frame.stride, IND_STRIDE_MOST);
     CHECK_EQ(serve(stage, head(FB, 0, 0, 0), 60, 4, 0), 0);
     CHECK_EQ(stage->device.rings[0].frame.held, 1);
     CHECK_EQ(stage->device.rings[0].frame.base, 60);
@@ -145,61 +145,63 @@ static void window_edges(void)
                     0xFFFFFFFC, wide_high(1, 1), 1);
     serve_unchanged(stage, 8, head(BLIT, 0, 0, 0), 12, 0, wide_high(2, 4));
     serve_unchanged(stage, 8, head(BLIT, 0, 0, 0), 0, 12, wide_high(2, 4));
-    /* 65535 rows of 65536 bytes: the end is above 2^32 and must not wrap. */
-    CHECK_EQ(serve(stage, head(FB, 0, 0, 0), 0, 65536, 0), 0);
+    /* The most rows of the longest stride: the end must not wrap at 2^32. */
+    CHECK_EQ(serve(stage, head(FB, 0, 0, 0), 0, IND_STRIDE_MOST, 0), 0);
     serve_unchanged(stage, 8, head(FILL, 0, 0, 0),
-                    65536, wide_high(1, 65535), 1);
+                    IND_STRIDE_MOST, wide_high(1, IND_EXTENT_MOST), 1);
     serve_unchanged(stage, 8, head(BLIT, 0, 0, 0),
-                    0, 65536, wide_high(1, 65535));
+                    0, IND_STRIDE_MOST, wide_high(1, IND_EXTENT_MOST));
     stage_free(stage);
 }
 
 static void dispatch_sides(void)
 {
+    enum { MOST = IND_SIDE_MOST };
     const uint32_t words[] = {WFI};
     struct stage *stage = stage_new(0);
 
     serve_unchanged(stage, 10, head(DISPATCH, 0, 0, 0), 1, 1, 0);
     pack_one(stage, words, 1);
     CHECK_EQ(serve(stage, head(DISPATCH, 0, 0, 0), 1, 1, 0), 0);
-    CHECK_EQ(serve(stage, head(DISPATCH, 0, 0, 9), 64, 64, 0), 0);
+    CHECK_EQ(serve(stage, head(DISPATCH, 0, 0, 9), MOST, MOST, 0), 0);
     serve_unchanged(stage, 10, head(DISPATCH, 0, 0, 0), 0, 1, 0);
     serve_unchanged(stage, 10, head(DISPATCH, 0, 0, 0), 1, 0, 0);
-    serve_unchanged(stage, 10, head(DISPATCH, 0, 0, 0), 65, 1, 0);
-    serve_unchanged(stage, 10, head(DISPATCH, 0, 0, 0), 1, 65, 0);
+    serve_unchanged(stage, 10, head(DISPATCH, 0, 0, 0), MOST + 1, 1, 0);
+    serve_unchanged(stage, 10, head(DISPATCH, 0, 0, 0), 1, MOST + 1, 0);
     serve_unchanged(stage, 10, head(DISPATCH, 0, 0, 0), 1, 1, 1);
     serve_unchanged(stage, 10, head(DISPATCH, 0, 0, 0), 1, 1, 0xFFFFFFFF);
     stage_free(stage);
 }
 
-/* The target stands before the payload; 255 words is the longest command. */
+/* The target stands before the payload, and this is the longest command. */
 static void write_then_read(void)
 {
-    struct stage *stage = stage_new(1024);
+    enum { LEN = IND_LEN_MOST, BYTES = 4 * LEN };
+    struct stage *stage = stage_new(4 + BYTES);
 
     stage->device.rings[0].window_start = 4;
-    stage->device.rings[0].window_length = 1020;
-    push(stage, 0, head(WRITE, PAYLOAD | 4, 5, 255), 0, 0, 0);
+    stage->device.rings[0].window_length = BYTES;
+    push(stage, 0, head(WRITE, PAYLOAD | 4, 5, LEN), 0, 0, 0);
     push_word(stage, 0, 0);
-    for (uint32_t i = 0; i < 255; i++)
+    for (uint32_t i = 0; i < LEN; i++)
         push_word(stage, 0, 0x01020304 * (i + 1));
     CHECK_EQ(stage_serve(stage), 0);
-    CHECK_EQ(stage->device.rings[0].cursor, 1040);
+    CHECK_EQ(stage->device.rings[0].cursor, IND_HEADER_BYTES + 4 + BYTES);
     CHECK_EQ(stage->report.words_read, 0);
     CHECK_EQ(get_word(stage->memory), 0);
     CHECK_EQ(get_word(stage->memory + 4), 0x01020304);
     CHECK_EQ(stage->memory[4], 4);
-    CHECK_EQ(get_word(stage->memory + 1020), 0x01020304u * 255);
-    CHECK_EQ(serve(stage, head(READ, 1, 0, 2), 1012, 0, 0), 0);
+    CHECK_EQ(get_word(stage->memory + BYTES), 0x01020304u * LEN);
+    CHECK_EQ(serve(stage, head(READ, 1, 0, 2), BYTES - 8, 0, 0), 0);
     CHECK_EQ(stage->report.words_read, 2);
     CHECK_EQ(stage->report.irq, 1);
-    CHECK_EQ(get_word(stage->pipe), 0x01020304u * 254);
-    CHECK_EQ(get_word(stage->pipe + 4), 0x01020304u * 255);
-    for (uint32_t i = 8; i < 1020; i++)
+    CHECK_EQ(get_word(stage->pipe), 0x01020304u * (LEN - 1));
+    CHECK_EQ(get_word(stage->pipe + 4), 0x01020304u * LEN);
+    for (uint32_t i = 8; i < IND_PIPE_LEAST; i++)
         CHECK_EQ(stage->pipe[i], 0xAA);
-    CHECK_EQ(serve(stage, head(READ, 0, 0, 255), 0, 0, 0), 0);
-    CHECK_EQ(stage->report.words_read, 255);
-    CHECK_EQ(memcmp(stage->pipe, stage->memory + 4, 1020), 0);
+    CHECK_EQ(serve(stage, head(READ, 0, 0, LEN), 0, 0, 0), 0);
+    CHECK_EQ(stage->report.words_read, LEN);
+    CHECK_EQ(memcmp(stage->pipe, stage->memory + 4, BYTES), 0);
     stage_free(stage);
 }
 

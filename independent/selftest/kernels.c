@@ -336,12 +336,12 @@ static void order_of_stops(void)
     struct rig rig;
 
     rig_start(&rig);
-    rig.thread.steps = 4096;
+    rig.thread.steps = IND_STEP_LIMIT;
     CHECK_EQ(step(&rig, bad, 1), 14);
     CHECK_EQ(step(&rig, end, 1), 14);
     rig.thread.place = 4;
     CHECK_EQ(step(&rig, bad, 1), 14);
-    rig.thread.steps = 4095;
+    rig.thread.steps = IND_STEP_LIMIT - 1;
     CHECK_EQ(step(&rig, bad, 1), 12);
     rig.thread.place = 2;
     CHECK_EQ(step(&rig, end, 1), 12);
@@ -349,9 +349,9 @@ static void order_of_stops(void)
     CHECK_EQ(step(&rig, bad, 1), 11);
     CHECK_EQ(step(&rig, far, 1), 13);
     CHECK_EQ(step(&rig, to_end, 1), 12); /* at the branch, not 14 after it */
-    CHECK_EQ(rig.thread.steps, 4095);
+    CHECK_EQ(rig.thread.steps, IND_STEP_LIMIT - 1);
     CHECK_EQ(step(&rig, end, 1), IND_ENDED);
-    CHECK_EQ(rig.thread.steps, 4096);
+    CHECK_EQ(rig.thread.steps, IND_STEP_LIMIT);
 }
 
 /* A thread's limit is a parameter: each run takes just so many steps. */

@@ -7,12 +7,13 @@
 #include "device/job.h"
 
 struct input {
-    uint8_t bytes[61441];
+    uint8_t bytes[IND_INPUT_MOST + 1];
     size_t length;
 };
 
 static void add(struct input *input, uint32_t word)
 {
+    CHECK(input->length + 4 <= sizeof input->bytes);
     put_word(input->bytes + input->length, word);
     input->length += 4;
 }
@@ -45,8 +46,8 @@ static void replays_as(const struct input *input, const char *want)
 
 static void add_windows(struct input *input, uint32_t start, uint32_t length)
 {
-    add(input, 4);
-    for (uint32_t i = 0; i < 4; i++) {
+    add(input, IND_RINGS);
+    for (uint32_t i = 0; i < IND_RINGS; i++) {
         add(input, start);
         add(input, length);
     }
@@ -89,9 +90,9 @@ static void too_short(void)
     }
     input.length = 117;
     replays_as(&input, "refused 9\n");
-    input.length = 61440;
+    input.length = IND_INPUT_MOST;
     replays_as(&input, "refused 9\n");
-    input.length = 61441;
+    input.length = IND_INPUT_MOST + 1;
     replays_as(&input, "refused 0\n");
 }
 
@@ -111,9 +112,9 @@ static void faulty_sections(void)
     replay_word_changed(56, 0xFFFFFFFF, "refused 3\n");
     replay_word_changed(80, 0xFFFFFFFF, "refused 4\n");
     replay_word_changed(84, 0xFFFFFFFF, "refused 5\n");
-    replay_word_changed(88, 17, "refused 6\n");
+    replay_word_changed(88, IND_KERNELS_MOST + 1, "refused 6\n");
     replay_word_changed(92, 0xFFFFFFFF, "refused 7\n");
-    replay_word_changed(96, 4097, "refused 8\n");
+    replay_word_changed(96, IND_JOB_WORDS_MOST + 1, "refused 8\n");
     replay_word_changed(96, 3, "refused 9\n");
     replay_word_changed(4, 2, "refused 101\n");
     replay_word_changed(8, 20, "refused 101\n");
@@ -140,11 +141,12 @@ static struct input one_kernel(uint32_t first, uint32_t count, uint32_t words)
 
 static void kernels_and_memory(void)
 {
-    struct input good = one_kernel(0, 1, 4096);
-    struct input no_words = one_kernel(5, 0, 4097);
-    struct input outside = one_kernel(1, 1, 4097);
+    const uint32_t most = IND_JOB_WORDS_MOST;
+    struct input good = one_kernel(0, 1, most);
+    struct input no_words = one_kernel(5, 0, most + 1);
+    struct input outside = one_kernel(1, 1, most + 1);
     struct input wrapped = one_kernel(0xFFFFFFFF, 1, 1);
-    struct input much = one_kernel(0, 1, 4097);
+    struct input much = one_kernel(0, 1, most + 1);
     struct input none = one_kernel(0, 1, 0);
 
     replays_as(&good, "idle 0\n");

@@ -3,6 +3,8 @@
 
 #include <stdio.h>
 
+#include "device/job.h"
+
 /* SET_FB base 0, stride 16, then a fill at 4; gives the fill's outcome. */
 static uint32_t fill_at_4(struct stage *stage, uint32_t width)
 {
@@ -72,7 +74,7 @@ static void p8_and_p9(void)
     ind_thread_start(&thread, 0, 0, 1, 1);
     while (run_word(&thread, p9[0]) == IND_GOES_ON)
         continue;
-    CHECK_EQ(thread.steps, 4096);
+    CHECK_EQ(thread.steps, IND_STEP_LIMIT);
     CHECK_EQ(thread.place, 0);
 }
 
@@ -170,8 +172,30 @@ static void wfi_as_step_4096(void)
     stage_free(stage);
 }
 
+/* The other tests use these by their names. */
+static void numbers_of_the_page(void)
+{
+    CHECK_EQ(IND_MEMORY_MOST, 1048576);
+    CHECK_EQ(IND_RING_MOST, 65536);
+    CHECK_EQ(IND_HEADER_BYTES, 16);
+    CHECK_EQ(IND_LEN_MOST, 255);
+    CHECK_EQ(IND_PIPE_LEAST, 1020);
+    CHECK_EQ(IND_EXTENT_MOST, 65535);
+    CHECK_EQ(IND_STRIDE_LEAST, 4);
+    CHECK_EQ(IND_STRIDE_MOST, 65536);
+    CHECK_EQ(IND_KERNELS_MOST, 16);
+    CHECK_EQ(IND_CODE_MOST, 16384);
+    CHECK_EQ(IND_SIDE_MOST, 64);
+    CHECK_EQ(IND_STEP_LIMIT, 4096);
+    CHECK_EQ(IND_RINGS, 4);
+    CHECK_EQ(IND_SLOTS, 64);
+    CHECK_EQ(IND_INPUT_MOST, 61440);
+    CHECK_EQ(IND_JOB_WORDS_MOST, 4096);
+}
+
 int main(void)
 {
+    numbers_of_the_page();
     p1_to_p3();
     p4_to_p7();
     p8_and_p9();

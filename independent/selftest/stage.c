@@ -16,18 +16,6 @@ void check_equal(uint64_t got, uint64_t want, const char *what,
     exit(1);
 }
 
-uint32_t get_word(const uint8_t *bytes)
-{
-    return (uint32_t)bytes[0] | (uint32_t)bytes[1] << 8
-         | (uint32_t)bytes[2] << 16 | (uint32_t)bytes[3] << 24;
-}
-
-void put_word(uint8_t *bytes, uint32_t value)
-{
-    for (int i = 0; i < 4; i++)
-        bytes[i] = (uint8_t)(value >> (8 * i));
-}
-
 uint32_t r_shape(uint32_t opcode, uint32_t funct7, uint32_t funct3, uint32_t rd,
                  uint32_t rs1, uint32_t rs2)
 {
@@ -69,12 +57,12 @@ static void *must(void *piece)
 struct stage *stage_new(uint32_t length)
 {
     struct stage *stage = must(calloc(1, sizeof *stage));
-    const uint32_t windows[4][2] = {
+    const uint32_t windows[IND_RINGS][2] = {
         {0, length}, {0, length}, {0, length}, {0, length}
     };
 
     stage->memory_len = length;
-    stage->pack_len = 8;
+    stage->pack_len = IND_PACK_LEAST;
     stage->pipe_len = sizeof stage->pipe;
     memset(stage->pipe, 0xAA, sizeof stage->pipe);
     CHECK_EQ(ind_fresh(&stage->device, length, windows), 0);
@@ -173,6 +161,7 @@ uint32_t wide_high(uint32_t width, uint32_t height)
 
 void push_word(struct stage *stage, uint32_t ring, uint32_t word)
 {
+    CHECK(stage->ring_len[ring] + 4 <= sizeof stage->ring[ring]);
     put_word(stage->ring[ring] + stage->ring_len[ring], word);
     stage->ring_len[ring] += 4;
 }
@@ -200,7 +189,7 @@ void serve_unchanged(struct stage *stage, uint32_t outcome, uint32_t first,
 
     CHECK_EQ(serve(stage, first, arg0, arg1, arg2), outcome);
     CHECK_EQ(stage->report.words_read, 0);
-    before->device.rings[0].cursor += 16;
+    before->device.rings[0].cursor += IND_HEADER_BYTES;
     before->device.marker = 1;
     memcpy(before->device.slots, stage->device.slots,
            sizeof before->device.slots);
@@ -210,11 +199,13 @@ void serve_unchanged(struct stage *stage, uint32_t outcome, uint32_t first,
 
 void pack_one(struct stage *stage, const uint32_t *words, uint32_t count)
 {
-    put_word(stage->pack, 1);
-    put_word(stage->pack + 4, 0);
-    put_word(stage->pack + 8, count);
-    put_word(stage->pack + 12, count);
-    for (uint32_t i = 0; i < count; i++)
-        put_word(stage->pack + 16 + 4 * i, words[i]);
-    stage->pack_len = 16 + 4 * (size_t)count;
+    const uint32_t head_words[] = {1, 0, count, count};
+    uint8_t *at = stage->pack;
+
+    CHECK(sizeof head_words + 4 * (size_t)count <= sizeof stage->pack);
+    for (uint32_t i = 0; i < 4; i++, at += 4)
+        put_word(at, head_words[i]);
+    for (uint32_t i = 0; i < count; i++, at += 4)
+        put_word(at, words[i]);
+    stage->pack_len = (size_t)(at - stage->pack);
 }

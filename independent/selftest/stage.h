@@ -3,6 +3,7 @@
 #ifndef IND_STAGE_H
 #define IND_STAGE_H
 
+#include "cases/words.h"
 #include "device/device.h"
 
 #define CHECK_EQ(got, want) check_equal((got), (want), #got, __FILE__, __LINE__)
@@ -10,9 +11,6 @@
 
 void check_equal(uint64_t got, uint64_t want, const char *what,
                  const char *file, int line);
-
-uint32_t get_word(const uint8_t *bytes);
-void put_word(uint8_t *bytes, uint32_t value);
 
 /* ---- instruction words, by the shapes of the RISC-V manual ---- */
 
@@ -39,7 +37,8 @@ struct stage {
     size_t memory_len;
     uint8_t ring[IND_RINGS][IND_RING_MOST + 4];
     size_t ring_len[IND_RINGS];
-    uint8_t pack[4 + 8 * (IND_KERNELS_MOST + 1) + 4 + 4 * (IND_CODE_MOST + 1)];
+    uint8_t pack[IND_PACK_LEAST + IND_PAIR_BYTES * (IND_KERNELS_MOST + 1)
+                 + 4 * (IND_CODE_MOST + 1)];
     size_t pack_len;
     uint8_t pipe[IND_PIPE_LEAST];
     size_t pipe_len;
@@ -76,7 +75,7 @@ void push_word(struct stage *stage, uint32_t ring, uint32_t word);
 void push(struct stage *stage, uint32_t ring, uint32_t first, uint32_t arg0,
           uint32_t arg1, uint32_t arg2);
 
-/* Pushes one command of 16 bytes on ring 0 and serves it. */
+/* Pushes one command, a header alone, on ring 0 and serves it. */
 uint32_t serve(struct stage *stage, uint32_t first, uint32_t arg0,
                uint32_t arg1, uint32_t arg2);
 

@@ -1,7 +1,10 @@
 /* Turns: which ring is served, waiting, fences and IRQ. */
 #include "selftest/stage.h"
 
-enum { BARRIER = 0x22, IRQ = 1, EMIT = 2, WAIT = 4, PAYLOAD = 8 };
+enum {
+    BARRIER = 0x22, IRQ = 1, EMIT = 2, WAIT = 4, PAYLOAD = 8,
+    HEADER = IND_HEADER_BYTES
+};
 
 /* A command is taken only when its last byte is there, faulty or not. */
 static void whole_commands(uint32_t opcode, uint32_t flags, size_t size)
@@ -76,7 +79,7 @@ static void rings_keep_to_their_windows(void)
 {
     struct stage *stage = stage_new(64);
 
-    for (uint32_t ring = 0; ring < 4; ring++) {
+    for (uint32_t ring = 0; ring < IND_RINGS; ring++) {
         stage->device.rings[ring].window_start = 16 * ring;
         stage->device.rings[ring].window_length = 16;
         push(stage, ring, head(0x30, 0, 0, 0), 4 * ring, 16, 0);
@@ -91,7 +94,7 @@ static void rings_keep_to_their_windows(void)
     for (uint32_t i = 0; i < 16; i++)
         CHECK_EQ(get_word(stage->memory + 4 * i),
                  i / 4 == i % 4 ? i / 4 + 1 : 0);
-    for (uint32_t ring = 0; ring < 4; ring++)
+    for (uint32_t ring = 0; ring < IND_RINGS; ring++)
         CHECK_EQ(stage->device.rings[ring].frame.base, 4 * ring);
     stage_free(stage);
 }
@@ -101,9 +104,9 @@ static void longest_ring(void)
 {
     struct stage *stage = stage_new(0);
 
-    for (uint32_t i = 0; i < IND_RING_MOST / 16; i++)
+    for (uint32_t i = 0; i < IND_RING_MOST / HEADER; i++)
         push(stage, 0, head(BARRIER, EMIT, 0, 0), 0, 0, 0);
-    stage->device.rings[0].cursor = IND_RING_MOST - 16;
+    stage->device.rings[0].cursor = IND_RING_MOST - HEADER;
     CHECK_EQ(stage_serve(stage), 0);
     CHECK_EQ(stage->device.rings[0].cursor, IND_RING_MOST);
     stage_unserved(stage, IND_IDLE);
@@ -112,12 +115,12 @@ static void longest_ring(void)
 
 void test_turns(void)
 {
-    whole_commands(BARRIER, 0, 16);
-    whole_commands(BARRIER, WAIT, 20);
-    whole_commands(0x01, PAYLOAD, 28);
-    whole_commands(0x01, PAYLOAD | WAIT, 32);
-    whole_commands(BARRIER, PAYLOAD, 28);
-    whole_commands(0xFF, PAYLOAD | WAIT | 0x80, 32);
+    whole_commands(BARRIER, 0, HEADER);
+    whole_commands(BARRIER, WAIT, HEADER + 4);
+    whole_commands(0x01, PAYLOAD, HEADER + 12);
+    whole_commands(0x01, PAYLOAD | WAIT, HEADER + 16);
+    whole_commands(BARRIER, PAYLOAD, HEADER + 12);
+    whole_commands(0xFF, PAYLOAD | WAIT | 0x80, HEADER + 16);
     waiting();
     one_ring_waits_for_another();
     rings_keep_to_their_windows();

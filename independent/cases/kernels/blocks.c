@@ -27,14 +27,15 @@ void emit_prologue(struct maker *m)
         emit_constant(m, a, m->address[a]);
     }
     for (uint32_t i = 0; i < 7; i++) {
-        if (mille(m->c, 500) && m->window >= 4)
+        if (mille(m->c, 500) && m->window >= WORD)
             emit(m, word_i(ROW_LW, values[i], 0,
-                           (int32_t)below(m->c, m->window - 3)));
+                           (int32_t)below(m->c, m->window - WORD + 1)));
         else
             emit_constant(m, values[i], edge_word(m->c));
     }
     for (uint32_t v = 0; v < 5; v++)
-        emit_row(m, mille(m->c, 700) && m->window >= 16 ? ROW_VLD : ROW_VBCAST);
+        emit_row(m, mille(m->c, 700) && m->window >= VECTOR_BYTES ? ROW_VLD
+                                                                  : ROW_VBCAST);
     if (mille(m->c, 500)) {
         emit(m, word_r(ROW_MUL, S_NUMBER, 1, 3));
         emit(m, word_r(ROW_ADD, S_NUMBER, S_NUMBER, 2));

@@ -3,6 +3,7 @@
 #define MAKER_H
 
 #include "cases/kernels/chance.h"
+#include "device/parts.h"
 
 /* Registers with a part of their own; the others are for values. */
 enum {
@@ -14,10 +15,10 @@ enum {
 struct maker {
     struct chance *c;
     uint32_t *code, words;
-    uint32_t window;             /* its length */
-    uint32_t address[32];        /* what an address register holds */
-    uint32_t bad;                /* so many in 1,000 accesses, branches go wrong */
-    uint32_t back;               /* and so many branches go back */
+    uint32_t window;                 /* its length */
+    uint32_t address[IND_REGISTERS]; /* what an address register holds */
+    uint32_t bad;  /* so many in 1,000 accesses and branches go wrong */
+    uint32_t back; /* and so many branches go back */
 };
 
 /* ---- maker.c: words and registers ---- */

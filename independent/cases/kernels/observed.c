@@ -24,13 +24,14 @@ static uint32_t operand_for(struct maker *m, int row, uint32_t which)
 /* s5 or s6 (or v5 or v6) from the window, or a number. */
 static void emit_operand(struct maker *m, int row, uint32_t r, int is_vector)
 {
-    if (is_vector && m->window >= 16 && mille(m->c, 500)) {
-        emit_constant(m, 10, below(m->c, m->window - 15));
+    if (is_vector && m->window >= VECTOR_BYTES && mille(m->c, 500)) {
+        emit_constant(m, 10, below(m->c, m->window - VECTOR_BYTES + 1));
         emit(m, word_r(ROW_VLD, r, 10, 0));
         return;
     }
-    if (m->window >= 4 && m->window < 2048 && mille(m->c, 250))
-        emit(m, word_i(ROW_LW, r, 0, (int32_t)below(m->c, m->window - 3)));
+    if (m->window >= WORD && m->window < 2048 && mille(m->c, 250))
+        emit(m, word_i(ROW_LW, r, 0,
+                       (int32_t)below(m->c, m->window - WORD + 1)));
     else
         emit_constant(m, r, operand_for(m, row, r - 5));
     if (is_vector)
@@ -73,9 +74,11 @@ static uint32_t observed_word(struct maker *m, int row)
  * is left alone. */
 static void emit_result(struct maker *m, uint32_t r, int is_vector)
 {
-    if (m->window < (is_vector ? 16 : 4))
+    uint32_t bytes = is_vector ? VECTOR_BYTES : WORD;
+
+    if (m->window < bytes)
         return;
-    uint32_t place = below(m->c, m->window - (is_vector ? 15 : 3));
+    uint32_t place = below(m->c, m->window - bytes + 1);
     if (!is_vector && place < 2048) {
         emit(m, word_s(ROW_SW, 0, r, (int32_t)place));
         return;

@@ -1,16 +1,12 @@
 #include "cases/kernels/packs.h"
 
-void put_word(uint8_t *bytes, uint32_t word)
-{
-    for (uint32_t i = 0; i < 4; i++)
-        bytes[i] = (uint8_t)(word >> (8 * i));
-}
+#include "cases/words.h"
+#include "device/parts.h"
 
-uint32_t get_word(const uint8_t *bytes)
-{
-    return bytes[0] | (uint32_t)bytes[1] << 8 | (uint32_t)bytes[2] << 16
-        | (uint32_t)bytes[3] << 24;
-}
+/* Both counts, all pairs, some code. */
+enum {
+    HEAD_MOST = IND_PACK_LEAST + IND_PAIR_BYTES * PACK_KERNELS_MOST + 4 * WORD
+};
 
 uint32_t lay_pack(uint8_t *pack, uint32_t kernels, const uint32_t *first,
                   const uint32_t *words, const uint32_t *code,
@@ -19,14 +15,14 @@ uint32_t lay_pack(uint8_t *pack, uint32_t kernels, const uint32_t *first,
     uint8_t *at = pack;
 
     put_word(at, kernels);
-    at += 4;
-    for (uint32_t i = 0; i < kernels; i++, at += 8) {
+    at += WORD;
+    for (uint32_t i = 0; i < kernels; i++, at += IND_PAIR_BYTES) {
         put_word(at, first[i]);
-        put_word(at + 4, words[i]);
+        put_word(at + WORD, words[i]);
     }
     put_word(at, code_words);
-    at += 4;
-    for (uint32_t i = 0; i < code_words; i++, at += 4)
+    at += WORD;
+    for (uint32_t i = 0; i < code_words; i++, at += WORD)
         put_word(at, code[i]);
     return (uint32_t)(at - pack);
 }
@@ -74,13 +70,13 @@ static uint32_t any_count(struct chance *c)
 {
     switch (below(c, 12)) {
     case 0:
-        return 16;
+        return IND_KERNELS_MOST;
     case 1:
-        return 17;
+        return IND_KERNELS_MOST + 1;
     case 2:
         return 0;
     default:
-        return below(c, 17);
+        return below(c, IND_KERNELS_MOST + 1);
     }
 }
 
@@ -88,11 +84,11 @@ static uint32_t any_code(struct chance *c)
 {
     switch (below(c, 30)) {
     case 0:
-        return 16384;
+        return IND_CODE_MOST;
     case 1:
-        return 16385;
+        return IND_CODE_MOST + 1;
     case 2:
-        return 16383;
+        return IND_CODE_MOST - 1;
     case 3:
         return 0;
     default:
@@ -102,7 +98,7 @@ static uint32_t any_code(struct chance *c)
 
 uint32_t damage_pack(struct chance *c, uint8_t *pack, uint32_t length)
 {
-    uint32_t header = length < 160 ? length : 160;
+    uint32_t head = length < HEAD_MOST ? length : HEAD_MOST;
 
     switch (below(c, 10)) {
     case 0: /* cut */
@@ -110,18 +106,19 @@ uint32_t damage_pack(struct chance *c, uint8_t *pack, uint32_t length)
     case 1: /* cut anywhere */
         return below(c, length + 1);
     case 2: /* longer */
-        for (uint32_t n = 1 + below(c, 8); n > 0 && length < PACK_MOST; n--)
+        for (uint32_t n = 1 + below(c, PACK_BYTES_BEHIND);
+             n > 0 && length < PACK_MOST; n--)
             pack[length++] = (uint8_t)any_word(c);
         return length;
     case 3: /* a bit */
-        if (header > 0) {
-            uint32_t at = below(c, header);
+        if (head > 0) {
+            uint32_t at = below(c, head);
             pack[at] ^= (uint8_t)(1u << below(c, 8));
         }
         return length;
     case 4: /* a word of its head */
-        if (header >= 4) {
-            uint32_t at = below(c, header / 4) * 4;
+        if (head >= WORD) {
+            uint32_t at = below(c, head / WORD) * WORD;
             put_word(pack + at, edge_word(c));
         }
         return length;
@@ -132,8 +129,8 @@ uint32_t damage_pack(struct chance *c, uint8_t *pack, uint32_t length)
 
 uint32_t draw_pack(struct chance *c, uint8_t *pack)
 {
-    static uint32_t code[16400];
-    uint32_t first[17], words[17];
+    static uint32_t code[PACK_CODE_MOST];
+    uint32_t first[PACK_KERNELS_MOST], words[PACK_KERNELS_MOST];
     uint32_t kernels = any_count(c), length;
 
     if (mille(c, 50)) { /* any bytes */

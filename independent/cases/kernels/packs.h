@@ -4,14 +4,16 @@
 #define PACKS_H
 
 #include "cases/kernels/chance.h"
+#include "device/device.h"
 
+/* A little more than a device takes, so that a pack can be too long. */
 enum {
-    PACK_MOST = 4 + 8 * 17 + 4 + 4 * 16400 + 8 /* bytes, some packs too long */
+    PACK_KERNELS_MOST = IND_KERNELS_MOST + 1,
+    PACK_CODE_MOST = IND_CODE_MOST + 16, /* words */
+    PACK_BYTES_BEHIND = 8,
+    PACK_MOST = IND_PACK_LEAST + IND_PAIR_BYTES * PACK_KERNELS_MOST
+              + 4 * PACK_CODE_MOST + PACK_BYTES_BEHIND /* bytes */
 };
-
-/* Little endian words into bytes. */
-void put_word(uint8_t *bytes, uint32_t word);
-uint32_t get_word(const uint8_t *bytes);
 
 /* Lays a pack out: returns its length. */
 uint32_t lay_pack(uint8_t *pack, uint32_t kernels, const uint32_t *first,

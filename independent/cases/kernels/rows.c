@@ -59,9 +59,9 @@ uint32_t access_bytes(int row)
         return 2;
     case ROW_LW:
     case ROW_SW:
-        return 4;
+        return WORD;
     default:
-        return 16;
+        return VECTOR_BYTES;
     }
 }
 
@@ -89,7 +89,7 @@ static void emit_vector_access(struct maker *m, int row)
 
     if (too_small(m, row))
         return;
-    uint32_t place = place_for(m, 16);
+    uint32_t place = place_for(m, VECTOR_BYTES);
     uint32_t base = base_for(m, place, &imm);
     if (imm != 0) {
         uint32_t own = (uint32_t)between(m->c, A_FIRST, A_LAST);
