@@ -104,11 +104,11 @@ static enum theme any_theme(struct chance *c)
     return (enum theme)theme;
 }
 
+static const uint8_t transfers[3] = { WRITE_MEM, READ_MEM, COPY_BUFFER };
+
 /* Sets wishes by a theme; gives the memory's length, or 0 for any. */
 static uint32_t wish(struct scene *s)
 {
-    static const uint8_t transfers[3] = { WRITE_MEM, READ_MEM, COPY_BUFFER };
-
     switch (any_theme(s->c)) {
     case THEME_STEPS: /* the last that there are */
         s->opcode = DISPATCH_1D;

@@ -1,10 +1,12 @@
 /* record SEED COUNT: COUNT calls with the independent device's answers on
- * standard output, and what they met on standard error. */
+ * standard output, and what they met on standard error. A file with too few
+ * served turns is no file to compare with: status 1. */
 #include <inttypes.h>
 #include <stdio.h>
 
 #include "cases/cases.h"
 #include "cases/number.h"
+#include "cases/share.h"
 #include "cases/tally.h"
 #include "device/image.h"
 #include "records/records.h"
@@ -12,6 +14,7 @@
 enum { LONGEST = 80000 }; /* a body's bytes: the whole set is to stay small */
 
 static uint64_t by_kind[CASE_KINDS], bytes_written;
+static struct share share;
 
 /* A case that makes too long a record is passed over: 0. */
 static int record_case(uint64_t seed, uint64_t number, struct call *before,
@@ -27,6 +30,7 @@ static int record_case(uint64_t seed, uint64_t number, struct call *before,
     bytes_written += bytes;
     by_kind[kind]++;
     tally_call(before, after);
+    share_call(&share, after);
     return 1;
 }
 
@@ -45,18 +49,20 @@ int main(int argc, char **argv)
     struct call *before = call_new(), *after = call_new();
     uint64_t seed, count, drawn = 0, written = 0;
 
-    if (argc != 3 || !number_of(argv[1], &seed) || !number_of(argv[2], &count)) {
+    if (argc != 3 || !number_of(argv[1], &seed)
+        || !number_of(argv[2], &count)) {
         fprintf(stderr, "usage: record SEED COUNT > FILE\n");
         return 2;
     }
     while (written < count)
         written += (uint64_t)record_case(seed, drawn++, before, after);
     tell(drawn, count);
+    int enough = share_enough(&share, "turns", stderr);
     call_free(before);
     call_free(after);
     if (fflush(stdout) != 0 || ferror(stdout)) {
         fprintf(stderr, "record: the file could not be written\n");
         return 1;
     }
-    return 0;
+    return !enough;
 }

@@ -5,6 +5,7 @@
 #include <stdlib.h>
 #include <string.h>
 
+#include "cases/share.h"
 #include "device/device.h"
 #include "device/job.h"
 
@@ -13,6 +14,7 @@ enum { REFUSALS = 10, TURN_SPANS = 6 };
 static struct {
     uint64_t refused[REFUSALS], refused_101, idle[TURN_SPANS];
     uint64_t turns, outcome[IND_OUTCOMES], fences, reads, rings[IND_RINGS];
+    struct share cases;
 } count;
 
 struct text output_wanted(const struct piece *input)
@@ -69,11 +71,19 @@ static void count_line(const char *line)
 void output_count(const struct text *text)
 {
     const char *at = text->bytes;
+    uint64_t before = count.turns;
 
     while (*at != '\0') {
         count_line(at);
         at = strchr(at, '\n') + 1;
     }
+    count.cases.all++;
+    count.cases.served += count.turns > before;
+}
+
+int outputs_enough(void)
+{
+    return share_enough(&count.cases, "cases", stdout);
 }
 
 static void line(uint64_t value, const char *name, uint32_t number)

@@ -44,6 +44,13 @@ int32_t immediate(struct maker *m)
     }
 }
 
+uint32_t shift_amount(struct maker *m)
+{
+    static const uint32_t by[8] = { 0, 1, 7, 16, 31, 32, 33, 0xFFFFFFFF };
+
+    return by[below(m->c, 8)];
+}
+
 /* Any word into a register: LUI, then ADDI if it is needed. */
 void emit_constant(struct maker *m, uint32_t rd, uint32_t value)
 {

@@ -29,6 +29,8 @@ uint32_t source(struct maker *m);
 uint32_t target(struct maker *m);
 uint32_t vector(struct maker *m);
 int32_t immediate(struct maker *m);
+/* What a shift by a register has an edge at. */
+uint32_t shift_amount(struct maker *m);
 /* Any word into a register. */
 void emit_constant(struct maker *m, uint32_t rd, uint32_t value);
 

@@ -5,8 +5,6 @@
 /* A number that this instruction has an edge at, as its operand 0 or 1. */
 static uint32_t operand_for(struct maker *m, int row, uint32_t which)
 {
-    static const uint32_t by[8] = { 0, 1, 7, 16, 31, 32, 33, 0xFFFFFFFF };
-
     static const uint32_t low[4] = {
         0x80000000, 0x80000001, 0xFFFFFFFF, 0xFFFF0000
     };
@@ -17,7 +15,7 @@ static uint32_t operand_for(struct maker *m, int row, uint32_t which)
         return 0;
     if ((row == ROW_SHL || row == ROW_LSR || row == ROW_ASR) && which == 1
         && mille(m->c, 700))
-        return by[below(m->c, 8)];
+        return shift_amount(m);
     return edge_word(m->c);
 }
 

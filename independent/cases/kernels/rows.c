@@ -129,12 +129,11 @@ static int32_t offset_for(struct maker *m)
 /* Shifts by a register find 0, 31, 32 and more there often enough. */
 static void emit_shift(struct maker *m, int row)
 {
-    static const uint32_t by[8] = { 0, 1, 7, 16, 31, 32, 33, 0xFFFFFFFF };
     uint32_t amount = source(m);
 
     if (mille(m->c, 500)) {
         amount = 7;
-        emit_constant(m, amount, by[below(m->c, 8)]);
+        emit_constant(m, amount, shift_amount(m));
     }
     if (row == ROW_SHL && amount == 0)
         amount = 5;
