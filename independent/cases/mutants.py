@@ -36,7 +36,8 @@ def edited(name, label, pairs):
 
 def other_objects(name):
     """Those that recordcheck is built from, but for the device's file of that name."""
-    left_out = [os.path.join(device, f + ".c") for f in (name, "job", "replay")] + [os.path.join(top, "records", "record.c")]
+    left_out = [os.path.join(device, f + ".c") for f in (name, "job", "replay")]
+    left_out.append(os.path.join(top, "records", "record.c"))
     sources = [os.path.join(folder, f) for part in ("device", "cases", "records")
                for folder, _, files in os.walk(os.path.join(top, part)) for f in sorted(files) if f.endswith(".c")]
     return [os.path.join(top, "build", os.path.relpath(s, top))[:-1] + "o" for s in sources if s not in left_out]

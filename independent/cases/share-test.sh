@@ -1,6 +1,6 @@
 #!/bin/sh
-# share-test.sh BUILD: a comparison must fail where no turn is served, or few are, though nothing differs. Each program is
-# built with the device as it is, with one that refuses all turns, and with one that refuses most.
+# share-test.sh BUILD: a comparison must fail where no turn is served, or few are, though nothing differs. Each program
+# is built with the device as it is, with one that refuses all turns, and with one that refuses most.
 # BUILD: the folder of this folder's objects; CC, CFLAGS and LDFLAGS as for make.
 set -eu
 top=$(cd "$(dirname "$(readlink -f "$0")")/.." && pwd -P)

@@ -134,7 +134,7 @@ uint32_t ind_turn(struct ind_device *device, uint8_t *memory, size_t memory_len,
     const struct ind_lent lent = {
         memory, memory_len, ring, ring_len, pack, pack_len, pipe, pipe_len
     };
-    const struct ind_report nothing = {0, 0, 0, 0, 0, 0};
+    const struct ind_report nothing = {.status = 0}; /* and all else 0 too */
 
     *report = nothing;
     report->status = refusal(device, &lent);
