@@ -16,13 +16,13 @@ use Rattle.device.specs.declared.turn.Answer.{Answer}
 use Rattle.device.specs.declared.turn.Answer.the-variants.{Refused, Idle, Served}
 use Rattle.state.specs.Device.{Shaped, freshDevice, ringOf}
 use Rattle.device.specs.Answer.{answerNumber, valuesOf}
-use Rattle.device.specs.Turn.{Call}
+use Rattle.device.specs.Turn.{Call, ringIn}
 use Rattle.device.specs.Untaken.{untakenOf, sumOf, untakenIn}
 use Rattle.device.proofs.Verdicts.{each-of-four}
 use Rattle.device.proofs.Untaken.{served-takes}
 use Rattle.device.proofs.Shapes.{turn-shaped, fresh-shaped}
 use Rattle.demands.specs.Calls.{answerOf, leftBy, isRefused, heard, none, more}
-use Rattle.demands.specs.Bounded.{Lends, served, taken, leftIn, SaysIdle, here, later, TurnsBounded, IdleInTime, FreshIdleInTime}
+use Rattle.demands.specs.Bounded.{Lends, served, taken, SaysIdle, here, later, TurnsBounded, IdleInTime, FreshIdleInTime}
 use Rattle.device.proofs.Answers.{refusal-least}
 use Rattle.demands.proofs.Answers.{is-refused, refused-serves}
 use Rattle.device.proofs.Turns.{picked-servable}
@@ -30,10 +30,10 @@ use Rattle.demands.proofs.Turns.{was-served}
 use Rattle.demands.proofs.Keeps.{keeps}
 use Rattle.demands.proofs.Sums.{sum-both}
 
--- the bytes left of a call's rings
-lent-left : (R : ℕ → List ℕ) (d : Device) (call : Call) → Lends R call → untakenIn d call ≡ leftIn R d
+-- the untaken bytes of a call's rings
+lent-untaken : (R : ℕ → List ℕ) (d : Device) (call : Call) → Lends R call → untakenIn (ringIn call) d ≡ untakenIn R d
 unfolding untakenIn sumOf
-lent-left R d call lends = rw (lends 0 (lit< tt), lends 1 (lit< tt), lends 2 (lit< tt), lends 3 (lit< tt))
+lent-untaken R d call lends = rw (lends 0 (lit< tt), lends 1 (lit< tt), lends 2 (lit< tt), lends 3 (lit< tt))
 
 -- a served turn takes one command
 one-served : (report : Report) → report .ring < 4 → sumOf 4 (served (Served report)) ≡ 1
@@ -48,7 +48,7 @@ none-served why = rw (refused-serves why 0, refused-serves why 1, refused-serves
 
 -- and its bytes; a turn that serves none takes none, and it is refused or idle
 record Takes (R : ℕ → List ℕ) (d after : Device) (answer : Answer) : Type 0 where
-  bytes : 16 * sumOf 4 (served answer) + leftIn R after ≤ leftIn R d
+  bytes : 16 * sumOf 4 (served answer) + untakenIn R after ≤ untakenIn R d
   counts : (answer ≡ Idle) ⊎ (either (isRefused answer) 0 1 ≡ sumOf 4 (served answer))
 
 module _ (d : Device) (call : Call) (R : ℕ → List ℕ) (shaped : Shaped d) where
@@ -60,16 +60,16 @@ module _ (d : Device) (call : Call) (R : ℕ → List ℕ) (shaped : Shaped d) w
       go (Refused why) e lends =
           let same = keeps d call .refused (rw e (refusal-least why)) .device in
           let none = none-served why in
-          record { bytes = omega (arith, ap (leftIn R) same, none); counts = inr (rw (is-refused why, none)) }
+          record { bytes = omega (arith, ap (untakenIn R) same, none); counts = inr (rw (is-refused why, none)) }
       go Idle e lends =
           let same = keeps d call .idle (rw e) .device in
-          record { bytes = omega (arith, ap (leftIn R) same); counts = inl refl }
+          record { bytes = omega (arith, ap (untakenIn R) same); counts = inl refl }
       go (Served report) e lends =
           let was = was-served d call report e in
           let one = one-served report (picked-servable d call (report .ring) (was .sound) (was .pick) .number) in
           let lent = lends refl in
           record {
-            bytes = omega (arith, one, served-takes d call shaped report e, lent-left R d call lent, lent-left R (leftBy d call) call lent);
+            bytes = omega (arith, one, served-takes d call shaped report e, lent-untaken R d call lent, lent-untaken R (leftBy d call) call lent);
             counts = inr (omega (arith, one));
           }
 
@@ -93,14 +93,14 @@ idle-in-time d shaped R (call ∷ calls) (more lends each) enough =
     let now = turn-takes d call R shaped lends in
     go (now .bytes) (now .counts) (idle-in-time (leftBy d call) (turn-shaped d call shaped) R calls each)
   where
-    go : 16 * sumOf 4 (served (answerOf d call)) + leftIn R (leftBy d call) ≤ leftIn R d
+    go : 16 * sumOf 4 (served (answerOf d call)) + untakenIn R (leftBy d call) ≤ untakenIn R d
         → (answerOf d call ≡ Idle) ⊎ (either (isRefused (answerOf d call)) 0 1 ≡ sumOf 4 (served (answerOf d call)))
-        → (leftIn R (leftBy d call) < 16 * heard (leftBy d call) calls → SaysIdle (leftBy d call) calls)
+        → (untakenIn R (leftBy d call) < 16 * heard (leftBy d call) calls → SaysIdle (leftBy d call) calls)
         → SaysIdle d (call ∷ calls)
     go bytes (inl idle) further = here (ap answerNumber idle)
     go bytes (inr counted) further = later (further (omega (arith, bytes, counted, enough)))
 
 pub fresh-idle-in-time : FreshIdleInTime
-unfolding FreshIdleInTime IdleInTime freshDevice ringOf untakenOf sumOf
+unfolding FreshIdleInTime IdleInTime freshDevice ringOf untakenOf untakenIn sumOf
 fresh-idle-in-time w0 w1 w2 w3 R calls each enough =
     idle-in-time (freshDevice w0 w1 w2 w3) (fresh-shaped w0 w1 w2 w3) R calls each (omega (arith, enough))

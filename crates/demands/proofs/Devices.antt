@@ -35,7 +35,8 @@ pub emit-rises : (b : Bool) (d : Device) (n : ℕ) → SlotsFit d → (b ≡ tru
 unfolding emitTo either withSlots emittedIn slotOf SlotsFit
 emit-rises true d n fit room m =
     let below : getD (d .slots) n 0 < 2 ^ 32 = fit n in
-    let free : getD (d .slots) n 0 < 4294967295 = omega (arith, λ (is : getD (d .slots) n 0 ≡ 4294967295). room refl (eq-eqb _ _ is)) in
+    let not-full : getD (d .slots) n 0 ≡ 4294967295 → ⊥ = λ is. room refl (eq-eqb _ _ is) in
+    let free : getD (d .slots) n 0 < 4294967295 = omega (arith, not-full) in
     put-rises (d .slots) n (emitted (getD (d .slots) n 0)) m (omega arith)
 emit-rises false d n fit room m = le-refl _
 

@@ -32,7 +32,7 @@ use Rattle.work.proofs.Performs.{performed-work}
 use Rattle.state.specs.declared.device.Device.{Device}
 use Rattle.state.specs.Device.{ringOf, slotOf, limitOf}
 use Rattle.device.specs.Answer.{valuesOf}
-use Rattle.device.specs.Turn.{Call, servedOf, ringIn}
+use Rattle.device.specs.Turn.{Call, servedOf, ringIn, reportOf}
 use Rattle.demands.specs.Calls.{headIn, numberIn, valuesIn, ringServed}
 use Rattle.demands.specs.EachStep.{windowIn, Dispatches, threadsIn, kernelIn, Leaves, ThreadsInOrder, StepsInOrder, StepByRule, LimitTied, OutOfStepsIn, EachStep}
 use Rattle.demands.proofs.Turns.{workIn, served-as}
@@ -50,7 +50,7 @@ dispatch-work d call q is =
 
 dispatch-served : (d : Device) (call : Call) → numberIn d call ≡ 0 → Dispatches d call (ringServed d call)
     → Leaves d call (threadsIn d call (ringServed d call))
-unfolding servedOf afterDispatch leaves valuesOf
+unfolding servedOf afterDispatch leaves valuesOf reportOf
 dispatch-served d call number is =
     let s = served-as d call number in
     let ring : ringServed d call ≡ s .report .ring = ap (λ v. v .ring) (s .values) in

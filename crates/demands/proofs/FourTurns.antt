@@ -22,7 +22,8 @@ use Rattle.state.specs.declared.device.Device.{Device}
 use Rattle.state.specs.declared.ready.Picked.the-variants.{Ring as RingOf}
 use Rattle.state.specs.Device.{SlotsFit, ringOf, slotOf}
 use Rattle.device.specs.Answer.{answerNumber, valuesOf}
-use Rattle.state.specs.Ready.{isMet, readyWith, readyWhere, readyAt, pickOf}
+use Rattle.state.specs.Slots.{isMet}
+use Rattle.state.specs.Ready.{readyWith, readyWhere, readyAt, pickOf}
 use Rattle.device.specs.Turn.{Call, TurnEnd, turnOf, unchanged, reportOf, finished, servedOf, ringIn, pickIn}
 use Rattle.device.proofs.Wholes.{whole-inside}
 use Rattle.device.proofs.Untaken.{other-ring}

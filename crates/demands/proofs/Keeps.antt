@@ -63,7 +63,7 @@ module _ (d : Device) (call : Call) where
   served-pipe q = pipe-stays _ _ _ _ _ _ _ _
 
   pub keeps : Keeps d call
-  unfolding unchanged valuesOf
+  unfolding unchanged valuesOf reportOf
   keeps = record {
     refused = λ number. not-served-same (omega arith);
     idle = λ number. not-served-same (omega arith);

@@ -12,6 +12,6 @@ one-answer = record {
   pair = λ x r₁ r₂ y m₁ m₂ a b. (both (a .0) (b .0), both (a .1) (b .1));
   step = λ s r₁ r₂ m₁ m₂ a b. (both (a .answer) (b .answer), both (a .memory) (b .memory));
   dispatch = λ d r₁ r₂ m₁ m₂ a b. (both (a .answer) (b .answer), both (a .memory) (b .memory));
-  command = λ l r₁ r₂ m₁ m₂ p₁ p₂ a b. (both (a .answer) (b .answer), both (a .memory) (b .memory), both (a .words) (b .words));
+  command = λ l r₁ r₂ m₁ m₂ p₁ p₂ a b. (both (a .answer) (b .answer), both (a .window) (b .window), both (a .pipe) (b .pipe));
   turn = λ x r₁ r₂ m₁ m₂ p₁ p₂ a b. (both (a .answer) (b .answer), both (a .memory) (b .memory), both (a .pipe) (b .pipe));
 }

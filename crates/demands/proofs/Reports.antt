@@ -83,7 +83,8 @@ module _ (d : Device) (q : ℕ) (c : Command) (p : Performed) (shaped : Shaped d
   unfolding fenceOf either SlotsFit
   one-more e =
       let below : slotOf d (c .rdst) < 2 ^ 32 = fit (c .rdst) in
-      rw e (omega (arith, λ (is : slotOf d (c .rdst) ≡ 4294967295). full e (eq-eqb _ _ is)))
+      let not-full : slotOf d (c .rdst) ≡ 4294967295 → ⊥ = λ is. full e (eq-eqb _ _ is) in
+      rw e (omega (arith, not-full))
 
   holds : emits c (p .outcome) ≡ true → slotOf (deviceAfter d q c p) (c .rdst) ≡ fenceOf (emits c (p .outcome)) (slotOf d (c .rdst))
   unfolding fenceOf either slotOf

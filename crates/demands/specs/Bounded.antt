@@ -12,7 +12,7 @@ use Rattle.device.specs.declared.turn.Answer.{Answer}
 use Rattle.state.specs.Device.{Shaped, freshDevice}
 use Rattle.device.specs.Answer.{answerNumber, valuesOf}
 use Rattle.device.specs.Turn.{Call, ringIn}
-use Rattle.device.specs.Untaken.{untakenOf, sumOf}
+use Rattle.device.specs.Untaken.{sumOf, untakenIn}
 use Rattle.demands.specs.Calls.{answerOf, leftBy, numberIn, heard, EachHeard}
 
 -- the call lends R q as the bytes of each ring q
@@ -28,19 +28,15 @@ unfoldable pub taken : Device → List Call → ℕ → ℕ
 taken d [] q = 0
 taken d (call ∷ calls) q = served (answerOf d call) q + taken (leftBy d call) calls q
 
--- the bytes that are left of rings whose bytes are R
-abbrev pub leftIn : (ℕ → List ℕ) → Device → ℕ
-leftIn R d = sumOf 4 (λ q. untakenOf d q (R q))
-
 -- one of the calls answers idle
 pub data SaysIdle : Device → List Call → Type 0 where
   here : {d : Device} {call : Call} {calls : List Call} → numberIn d call ≡ 1 → SaysIdle d (call ∷ calls)
   later : {d : Device} {call : Call} {calls : List Call} → SaysIdle (leftBy d call) calls → SaysIdle d (call ∷ calls)
 
--- the calls that serve a ring are no more than a sixteenth of the bytes left
+-- the calls that serve a ring are no more than a sixteenth of the bytes not yet taken
 abbrev pub BoundedFrom : Device → Type 0
 BoundedFrom d =
-    (R : ℕ → List ℕ) (calls : List Call) → EachHeard (Lends R) d calls → 16 * sumOf 4 (taken d calls) ≤ leftIn R d
+    (R : ℕ → List ℕ) (calls : List Call) → EachHeard (Lends R) d calls → 16 * sumOf 4 (taken d calls) ≤ untakenIn R d
 
 -- of every device with four rings
 unfoldable pub TurnsBounded : Type 0
@@ -50,13 +46,13 @@ TurnsBounded = (d : Device) → Shaped d → BoundedFrom d
 abbrev pub IdleInTimeFrom : Device → Type 0
 IdleInTimeFrom d =
     (R : ℕ → List ℕ) (calls : List Call) → EachHeard (Lends R) d calls
-    → leftIn R d < 16 * heard d calls → SaysIdle d calls
+    → untakenIn R d < 16 * heard d calls → SaysIdle d calls
 
 -- of every device with four rings
 unfoldable pub IdleInTime : Type 0
 IdleInTime = (d : Device) → Shaped d → IdleInTimeFrom d
 
--- from fresh, the bytes left are those of the four rings
+-- from fresh, the bytes not yet taken are those of the four rings
 unfoldable pub FreshIdleInTime : Type 0
 FreshIdleInTime =
     (w0 w1 w2 w3 : Window) (R : ℕ → List ℕ) (calls : List Call) → EachHeard (Lends R) (freshDevice w0 w1 w2 w3) calls
