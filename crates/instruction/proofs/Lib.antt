@@ -1,4 +1,3 @@
 pub mod Effects
-pub mod Stops
 pub mod OperandLaws
 pub mod OperandsCount

@@ -12,14 +12,13 @@ use Rattle.memory.specs.Access.{loadOf}
 use Rattle.memory.specs.Quad.{loadQuadOf}
 use Rattle.instruction.specs.declared.list.Op.{Op}
 use Rattle.instruction.specs.declared.list.Op.the-variants.{Alu, Unary, AluImm, Lui, Branch, Load, Store, Membar, Wfi, Vector, Vbcast, Vextr, Vld, Vst, Unlisted}
-use Rattle.instruction.specs.declared.effect.Stop.the-variants.{OutsideTheWindow}
 use Rattle.instruction.specs.declared.effect.Effect.{Effect}
-use Rattle.instruction.specs.declared.effect.Effect.the-variants.{Put, PutQuad, Store as StoreAt, StoreQuad, Go, Next, End, Stop}
+use Rattle.instruction.specs.declared.effect.Effect.the-variants.{Put, PutQuad, Store as StoreAt, StoreQuad, Go, Next, End, NotListed, Outside}
 use Rattle.instruction.specs.Effect.{effectOf}
 use Rattle.instruction.specs.Operands.{reads1, reads2, writes, ends}
 use Rattle.instruction.proofs.Effects.{of-load, of-quad-load, of-branch}
 
--- a scalar is put, or the thread is stopped for an access outside the window
+-- a scalar is put, or the access is outside the window
 abbrev pub PutOrOutside : Effect → Type 0
 PutOrOutside (Put x) = Unit {0}
 PutOrOutside (PutQuad vd q) = ⊥
@@ -28,7 +27,8 @@ PutOrOutside (StoreQuad a q) = ⊥
 PutOrOutside (Go offset) = ⊥
 PutOrOutside Next = ⊥
 PutOrOutside End = ⊥
-PutOrOutside (Stop why) = why ≡ OutsideTheWindow
+PutOrOutside NotListed = ⊥
+PutOrOutside Outside = Unit {0}
 
 -- a table does not say both
 pub said-no : false ≡ true → ⊥
@@ -100,7 +100,7 @@ module _ (vectors window : List ℕ) where
   written-is-put (AluImm o imm) x y e = tt
   written-is-put (Lui imm) x y e = tt
   written-is-put (Branch c offset) x y e = absurd (said-no e)
-  written-is-put (Load width imm) x y e = of-load PutOrOutside (loadOf window width (sum 32 x imm)) (λ v. tt) refl
+  written-is-put (Load width imm) x y e = of-load PutOrOutside (loadOf window width (sum 32 x imm)) (λ v. tt) tt
   written-is-put (Store width imm) x y e = absurd (said-no e)
   written-is-put Membar x y e = absurd (said-no e)
   written-is-put Wfi x y e = absurd (said-no e)

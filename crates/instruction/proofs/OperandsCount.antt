@@ -25,8 +25,7 @@ use Rattle.instruction.specs.declared.list.Cond.{Cond}
 use Rattle.instruction.specs.declared.list.Cond.the-variants.{Eq, Ne, Lt, Ge, Ltu, Geu}
 use Rattle.instruction.specs.declared.list.Op.{Op}
 use Rattle.instruction.specs.declared.list.Op.the-variants.{Alu, Unary, AluImm, Lui, Branch, Load, Store, Membar, Wfi, Vector, Vbcast, Vextr, Vld, Vst, Unlisted}
-use Rattle.instruction.specs.declared.effect.Stop.{Stop}
-use Rattle.instruction.specs.declared.effect.Effect.the-variants.{Put, PutQuad, Go, Next, Stop as StopFor}
+use Rattle.instruction.specs.declared.effect.Effect.the-variants.{Put, PutQuad, Go, Next, Outside}
 use Rattle.instruction.specs.Meaning.{aluOf, unaryOf, holdsOf}
 use Rattle.instruction.specs.Effect.{loadedEffect, loadedQuadEffect, branchEffect, effectOf}
 use Rattle.instruction.specs.Vectors.{broadcast}
@@ -75,11 +74,11 @@ withOne Unlisted = Unlisted
 puts-differ : (a b : ℕ) → eqb a b ≡ false → Put a ≡ Put b → ⊥
 puts-differ a b differ e = eqb-false a b differ (cc)
 
-put-or-stop : (a : ℕ) (why : Stop) → Put a ≡ StopFor why → ⊥
-put-or-stop a why e = let z : _≡_ {A = ℕ} 0 1 = cc in omega arith
+put-or-outside : (a : ℕ) → Put a ≡ Outside → ⊥
+put-or-outside a e = let z : _≡_ {A = ℕ} 0 1 = cc in omega arith
 
-quad-or-stop : (vd : ℕ) (q : Quad) (why : Stop) → PutQuad vd q ≡ StopFor why → ⊥
-quad-or-stop vd q why e = let z : _≡_ {A = ℕ} 0 1 = cc in omega arith
+quad-or-outside : (vd : ℕ) (q : Quad) → PutQuad vd q ≡ Outside → ⊥
+quad-or-outside vd q e = let z : _≡_ {A = ℕ} 0 1 = cc in omega arith
 
 go-or-next : (offset : ℕ) → Go offset ≡ Next → ⊥
 go-or-next offset e = let z : _≡_ {A = ℕ} 0 1 = cc in omega arith
@@ -142,9 +141,9 @@ branch-rs2 Geu offset = go-or-next offset
 -- a load at 0 of a window of four bytes puts a scalar, at 4 it stops
 load-rs1 : (width : Width) → loadedEffect (loadOf (replicate 4 0) width 0) ≡ loadedEffect (loadOf (replicate 4 0) width 4) → ⊥
 unfolding loadedEffect loadOf reachOf ifInside bytesOf
-load-rs1 Byte = put-or-stop _ _
-load-rs1 Half = put-or-stop _ _
-load-rs1 Word = put-or-stop _ _
+load-rs1 Byte = put-or-outside _
+load-rs1 Half = put-or-outside _
+load-rs1 Word = put-or-outside _
 
 -- a word that makes the address 0
 toZero : ℕ → ℕ
@@ -257,7 +256,7 @@ module _ (vectors : List ℕ) where
     x-word = omega arith;
     x′-word = omega arith;
     y-word = omega arith;
-    differ = quad-or-stop _ _ _;
+    differ = quad-or-outside _ _;
   }
   rs1-read (Vst v2) e = record {
     x = 0;

@@ -6,9 +6,9 @@ use Prim.Native.Nat.{ℕ, zero, suc, _+_, _*_, _≤_, _<_}
 use native.Mathlib.Nat.{mul-zero, zero-lt-suc, not-suc-le-zero}
 use native.Mathlib.Numerals.{add-one}
 use Rattle.memory.specs.After.{after}
-use Rattle.instruction.specs.declared.effect.Stop.{Stop}
 use Rattle.kernel.proofs.Settled.{after-stays}
 use Rattle.pack.specs.declared.kernels.Kernel.{Kernel}
+use Rattle.kernel.specs.declared.step.Stop.{Stop}
 use Rattle.kernel.specs.declared.dispatch.Ran.{Ran}
 use Rattle.kernel.specs.declared.dispatch.Ran.the-variants.{Done, Stopped}
 use Rattle.kernel.specs.Dispatch.{ShowsRan, ifDone, going, threadOf, threadMore, threadsOf}

@@ -21,13 +21,13 @@ use Rattle.memory.proofs.Reach.{reach-outside}
 use Rattle.instruction.specs.declared.list.Op.the-variants.{Alu, Unary, AluImm}
 use Rattle.instruction.specs.declared.list.AluOp.the-variants.{Add}
 use Rattle.instruction.specs.declared.list.UnaryOp.the-variants.{Abs, Clz}
-use Rattle.instruction.specs.declared.effect.Stop.{Stop}
-use Rattle.instruction.specs.declared.effect.Stop.the-variants.{OutsideTheWindow, OutOfSteps}
 use Rattle.instruction.specs.Rows.{scalarRow, plainRow, countRow, immediateRow, storeRow, branchRow}
 use Rattle.instruction.specs.Decode.{opOf, decoded}
 use Rattle.instruction.specs.Meaning.{aluOf, unaryOf, holdsOf}
 use Rattle.instruction.specs.Effect.{branchEffect, effectOf}
 use Rattle.pack.specs.declared.kernels.Kernel.{Kernel}
+use Rattle.kernel.specs.declared.step.Stop.{Stop}
+use Rattle.kernel.specs.declared.step.Stop.the-variants.{OutsideTheWindow, OutOfSteps}
 use Rattle.kernel.specs.declared.thread.Thread.{Thread}
 use Rattle.kernel.specs.declared.step.Progress.the-variants.{Stopped}
 use Rattle.kernel.specs.declared.dispatch.Ran.the-variants.{Stopped as StoppedFor}

@@ -7,19 +7,19 @@ use Prim.Native.Nat.{ℕ, zero, suc, _+_, _≤_, _<_}
 use native.Mathlib.Omega.{arith}
 use Rattle.memory.specs.After.{after}
 use Rattle.instruction.specs.declared.list.Op.the-variants.{Wfi}
-use Rattle.instruction.specs.declared.effect.Stop.the-variants.{OutOfSteps}
 use Rattle.instruction.specs.Decode.{opOf, decoded}
 use Rattle.instruction.specs.Effect.{effectOf}
 use Rattle.pack.specs.declared.kernels.Kernel.{Kernel}
+use Rattle.kernel.specs.declared.step.Stop.the-variants.{OutOfSteps}
 use Rattle.kernel.specs.declared.thread.Thread.{Thread}
 use Rattle.kernel.specs.declared.step.Progress.{Progress}
 use Rattle.kernel.specs.declared.step.Progress.the-variants.{Running, Ended, Stopped}
 use Rattle.pack.specs.Kernels.{codeWord}
-use Rattle.kernel.specs.Step.{State, stops, ends, applied, executed, stepOf}
+use Rattle.kernel.specs.Step.{State, stops, stoppedAs, ends, applied, executed, stepOf}
 use Rattle.kernel.specs.Run.{ifRunning, stepMore, running, stepsOf, runOf}
 use Rattle.kernel.proofs.Runs.{one-step-more, run-rests, ended-rests, stopped-rests}
 use Rattle.kernel.proofs.StepByStep.{more-running, run-last-step}
-use Rattle.kernel.proofs.Steps.{Counted, stoppedAt, step-counts, at-the-limit, instruction-done}
+use Rattle.kernel.proofs.Steps.{Counted, step-counts, at-the-limit, instruction-done}
 
 -- a thread that is running after n steps took n, and no more than the limit; it is stopped with 14 only past the limit
 abbrev Took : ℕ → ℕ → Progress → ℕ → Type 0
@@ -89,7 +89,7 @@ module _ (limit : ℕ) (pack : List ℕ) (kernel : Kernel) where
 
       -- a thread still running after the limit's steps is stopped with 14, and all is as those steps left it
       pub running-at-the-limit : state limit .stepped .progress ≡ Running
-          → end ≡ stoppedAt OutOfSteps (state limit .stepped .thread) (state limit .window)
+          → end ≡ stoppedAs OutOfSteps (state limit .stepped .thread) (state limit .window)
       running-at-the-limit e =
           run-last-step limit pack kernel t window
           ∙ more-running limit pack kernel (state limit) e

@@ -63,11 +63,17 @@ enum-told-2 c = search needs
 end-requires : tie.Need-end-requires
 end-requires c κs = search needs
 
-enum-known-effect-6 : tie.Need-enum-known-effect-6
-enum-known-effect-6 c = search needs
+enum-told-3 : tie.Need-enum-told-3
+enum-told-3 c = search needs
 
-stop-requires : tie.Need-stop-requires
-stop-requires c κs = search needs
+stopped-requires : tie.Need-stopped-requires
+stopped-requires c κs = search needs
+
+enum-told-4 : tie.Need-enum-told-4
+enum-told-4 c = search needs
+
+stopped-requires-2 : tie.Need-stopped-requires-2
+stopped-requires-2 c κs = search needs
 
 returns : tie.Need-returns
 unfolding applied
@@ -105,7 +111,11 @@ returns-7 c = rw (c .before .enum-told2 .given .1) (record { answer = c .end .en
 
 returns-8 : tie.Need-returns-8
 unfolding applied
-returns-8 c = rw (c .before .before .effect6 .given .1) (record { answer = c .stop .ensures; memory = refl })
+returns-8 c = rw (c .before .enum-told3 .given .1) (record { answer = c .stopped .ensures; memory = refl })
+
+returns-9 : tie.Need-returns-9
+unfolding applied
+returns-9 c = rw (c .before .enum-told4 .given .1) (record { answer = c .stopped2 .ensures; memory = refl })
 
 pub apply-spec : {M : Type 1} → statement M
 apply-spec =
@@ -129,8 +139,10 @@ apply-spec =
     go-on-requires-3
     enum-told-2
     end-requires
-    enum-known-effect-6
-    stop-requires
+    enum-told-3
+    stopped-requires
+    enum-told-4
+    stopped-requires-2
     returns
     returns-2
     same-length
@@ -140,4 +152,5 @@ apply-spec =
     returns-5
     returns-6
     returns-7
-    returns-8)
+    returns-8
+    returns-9)
