@@ -27,7 +27,7 @@ use Rattle.kernel.specs.declared.dispatch.Ran.the-variants.{Stopped as StoppedF
 use Rattle.pack.specs.Kernels.{kernelOf, codeWord}
 use Rattle.kernel.specs.Registers.{scalarOf}
 use Rattle.kernel.specs.Thread.{started}
-use Rattle.kernel.specs.Step.{stoppedAs, ends, lands, applied, executed, stepOf}
+use Rattle.kernel.specs.Step.{stoppedAs, endsThread, lands, applied, executed, stepOf}
 use Rattle.kernel.specs.Run.{running, stepsOf, runOf}
 use Rattle.kernel.specs.Dispatch.{Dispatched, shown, going, threadOf, threadsOf}
 use Rattle.command.specs.Opcode.{dispatch1D}
@@ -140,7 +140,7 @@ pub record LimitTied (limit : ℕ) (pack : List ℕ) (kernel : Kernel) (t : Thre
   -- a WFI that is step number `limit` ends the thread, and 14 is not given
   pub wfi : (n : ℕ) (t′ : Thread) (window′ : List ℕ) → n + 1 ≡ limit → stepsOf n limit pack kernel t window ≡ running t′ window′
       → t′ .place < kernel .length → opOf (codeWord pack kernel (t′ .place)) ≡ Wfi
-      → runOf limit pack kernel t window ≡ record { stepped = ends t′; window = window′ }
+      → runOf limit pack kernel t window ≡ record { stepped = endsThread t′; window = window′ }
 
 -- no thread before this one stopped, and on the window that those left it is still running after the limit's steps
 pub record FirstOutOfSteps (limit : ℕ) (pack : List ℕ) (kernel : Kernel) (groups threads : ℕ) (window : List ℕ) : Type 0 where

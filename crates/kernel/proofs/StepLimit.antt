@@ -15,7 +15,7 @@ use Rattle.kernel.specs.declared.thread.Thread.{Thread}
 use Rattle.kernel.specs.declared.step.Progress.{Progress}
 use Rattle.kernel.specs.declared.step.Progress.the-variants.{Running, Ended, Stopped}
 use Rattle.pack.specs.Kernels.{codeWord}
-use Rattle.kernel.specs.Step.{State, stops, stoppedAs, ends, applied, executed, stepOf}
+use Rattle.kernel.specs.Step.{State, stops, stoppedAs, endsThread, applied, executed, stepOf}
 use Rattle.kernel.specs.Run.{ifRunning, stepMore, running, stepsOf, runOf}
 use Rattle.kernel.proofs.Runs.{one-step-more, run-rests, ended-rests, stopped-rests}
 use Rattle.kernel.proofs.StepByStep.{more-running, run-last-step}
@@ -113,11 +113,11 @@ module _ (limit : ℕ) (pack : List ℕ) (kernel : Kernel) where
       -- a WFI that is step number limit ends the thread, and 14 is not given
       pub wfi-at-the-limit : (n : ℕ) (t′ : Thread) (window′ : List ℕ) → n + 1 ≡ limit → state n ≡ running t′ window′
           → t′ .place < kernel .length → opOf (codeWord pack kernel (t′ .place)) ≡ Wfi
-          → end ≡ record { stepped = ends t′; window = window′ }
-      unfolding running executed decoded effectOf applied ends
+          → end ≡ record { stepped = endsThread t′; window = window′ }
+      unfolding running executed decoded effectOf applied endsThread
       wfi-at-the-limit n t′ window′ h e on wfi =
           let took : t′ .steps ≡ n = rw e at (running-took n (rw e)) in
           let here = one-step-more limit pack kernel t window n t′ window′ e in
           let wfi-done = instruction-done limit pack kernel t′ window′ (omega arith) on in
-          let done : state (n + 1) ≡ record { stepped = ends t′; window = window′ } = here ∙ wfi-done ∙ (rw wfi) in
+          let done : state (n + 1) ≡ record { stepped = endsThread t′; window = window′ } = here ∙ wfi-done ∙ (rw wfi) in
           ended-run (n + 1) (omega arith) (rw done) ∙ done

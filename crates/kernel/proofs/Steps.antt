@@ -29,7 +29,7 @@ use Rattle.kernel.specs.declared.step.Progress.{Progress}
 use Rattle.kernel.specs.declared.step.Progress.the-variants.{Running, Ended, Stopped}
 use Rattle.pack.specs.Kernels.{codeWord}
 use Rattle.kernel.specs.Thread.{written, writtenVector, movedTo, advanced}
-use Rattle.kernel.specs.Step.{State, stops, stoppedAs, goesOn, ends, lands, branched, afterStore, applied, executed, stepOf}
+use Rattle.kernel.specs.Step.{State, stops, stoppedAs, goesOn, endsThread, lands, branched, afterStore, applied, executed, stepOf}
 
 -- a step that leaves the thread running, and WFI, is taken below the limit and adds one to the steps;
 -- a stop adds none, and is 14 only at the limit
@@ -49,7 +49,7 @@ pub record Outcomes (P : State → Type 0) (limit length : ℕ) (t : Thread) (wi
   pub branched : t .steps < limit → (place : ℕ) → place % 4 ≡ 0 → place < length
       → P (record { stepped = record { thread = movedTo t place; progress = Running }; window = window })
   -- the thread's end
-  pub ended : t .steps < limit → P (record { stepped = ends t; window = window })
+  pub ended : t .steps < limit → P (record { stepped = endsThread t; window = window })
   -- a stop, which is 14 only after the limit's steps
   pub stopped : (why : Stop) → (why ≡ OutOfSteps → limit ≤ t .steps) → P (stoppedAs why t window)
 
@@ -130,7 +130,7 @@ module _ (limit : ℕ) (pack : List ℕ) (kernel : Kernel) (t : Thread) (window 
 
   -- each step counts
   pub step-counts : Counted limit (t .steps) (stepOf limit pack kernel t window .stepped .progress) (stepOf limit pack kernel t window .stepped .thread .steps)
-  unfolding goesOn ends stops advanced movedTo
+  unfolding goesOn endsThread stops advanced movedTo
   step-counts = step-cases (λ s. Counted limit (t .steps) (s .stepped .progress) (s .stepped .thread .steps)) (record {
     next = λ h t′ place steps. (rw steps, h);
     stored = λ h width a x. (refl, h);

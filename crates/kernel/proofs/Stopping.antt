@@ -9,7 +9,7 @@ use Rattle.kernel.specs.declared.step.Stop.{Stop}
 use Rattle.kernel.specs.declared.thread.Thread.{Thread}
 use Rattle.kernel.specs.declared.step.Progress.{Progress}
 use Rattle.kernel.specs.declared.step.Progress.the-variants.{Running, Ended, Stopped}
-use Rattle.kernel.specs.Step.{State, stops, stoppedAs, goesOn, ends, branched, stepOf}
+use Rattle.kernel.specs.Step.{State, stops, stoppedAs, goesOn, endsThread, branched, stepOf}
 use Rattle.kernel.specs.Run.{running, stepsOf, runOf}
 use Rattle.kernel.proofs.Runs.{one-step-more, run-rests, stopped-rests}
 use Rattle.kernel.proofs.Steps.{step-cases}
@@ -23,7 +23,7 @@ StopsHere t window (Stopped why) s = s ≡ stoppedAs why t window
 -- a step that stops changes neither thread nor window
 pub stopped-step : (limit : ℕ) (pack : List ℕ) (kernel : Kernel) (t : Thread) (window : List ℕ) (why : Stop)
     → stepOf limit pack kernel t window .stepped .progress ≡ Stopped why → stepOf limit pack kernel t window ≡ stoppedAs why t window
-unfolding goesOn ends stops
+unfolding goesOn endsThread stops
 stopped-step limit pack kernel t window why e = subst (λ (p : Progress). StopsHere t window p (stepOf limit pack kernel t window)) e here
   where
     here : StopsHere t window (stepOf limit pack kernel t window .stepped .progress) (stepOf limit pack kernel t window)

@@ -48,8 +48,8 @@ unfoldable pub goesOn : Thread → Stepped
 goesOn t = record { thread = advanced t; progress = Running }
 
 -- WFI is a step and ends the thread
-unfoldable pub ends : Thread → Stepped
-ends t = record { thread = advanced t; progress = Ended }
+unfoldable pub endsThread : Thread → Stepped
+endsThread t = record { thread = advanced t; progress = Ended }
 
 -- a taken branch must land on a multiple of 4 inside the kernel; in a sound pack a place before its start wraps to one past its end
 unfoldable pub lands : ℕ → ℕ → Bool
@@ -79,7 +79,7 @@ applied length rd (StoreQuad a q) t window = record {
 }
 applied length rd (Go offset) t window = record { stepped = branched length offset t; window = window }
 applied length rd Next t window = record { stepped = goesOn t; window = window }
-applied length rd End t window = record { stepped = ends t; window = window }
+applied length rd End t window = record { stepped = endsThread t; window = window }
 applied length rd Unlisted t window = stoppedAs NotListed t window
 applied length rd Outside t window = stoppedAs OutsideTheWindow t window
 

@@ -1,7 +1,7 @@
 // One step of a thread.
 ghost use mathlib.Core.Path.{_≡_};
 ghost use Prim.Native.Nat.{_+_, _^_, _<_};
-ghost use Rattle.kernel.specs.Step.{Shows, stops, goesOn, ends, branched, afterStore, applied, executed, stepOf};
+ghost use Rattle.kernel.specs.Step.{Shows, stops, goesOn, endsThread, branched, afterStore, applied, executed, stepOf};
 use crate::thread::Thread;
 use instruction::decode::decode;
 use instruction::effect::Effect;
@@ -59,7 +59,7 @@ fn go_on(thread: Thread) -> Stepped
 
 fn end(thread: Thread) -> Stepped
     requires { ⌜ thread .steps + 1 < 2 ^ 32 ⌝ }
-    ensures { λ r. ⌜ r ≡ ends thread ⌝ }
+    ensures { λ r. ⌜ r ≡ endsThread thread ⌝ }
 {
     Stepped {
         thread: thread.advance(),
