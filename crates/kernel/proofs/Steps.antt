@@ -1,4 +1,4 @@
--- What can become of a step, and what it adds to the steps taken; when it gives stop 14.
+-- The cases of a step, and what it adds to the steps taken; when it gives stop 14.
 -- Assumes nothing.
 use mathlib.Core.Path.{_≡_, refl}
 use mathlib.Core.Bool.{Bool, true, false, cond, _&&_}
@@ -38,8 +38,8 @@ Counted limit before Running now = (now ≡ before + 1) × (before < limit)
 Counted limit before Ended now = (now ≡ before + 1) × (before < limit)
 Counted limit before (Stopped why) now = (now ≡ before) × (why ≡ OutOfSteps → limit ≤ before)
 
--- what a step in a kernel of `length` bytes can come to: P of each
-pub record Outcomes (P : State → Type 0) (limit length : ℕ) (t : Thread) (window : List ℕ) : Type 0 where
+-- the cases of a step in a kernel of `length` bytes: P of each
+pub record StepCases (P : State → Type 0) (limit length : ℕ) (t : Thread) (window : List ℕ) : Type 0 where
   -- the next instruction, perhaps with a register written
   pub next : t .steps < limit → (t′ : Thread) → t′ .place ≡ t .place → t′ .steps ≡ t .steps → P (record { stepped = goesOn t′; window = window })
   -- the next instruction after a store
@@ -80,7 +80,7 @@ module _ (P : State → Type 0) (t : Thread) (window : List ℕ) where
   of-branch length place true false m i lands off = off
   of-branch length place false inside m i lands off = off
 
-  module _ (limit length rd : ℕ) (below : t .steps < limit) (cases : Outcomes P limit length t window) where
+  module _ (limit length rd : ℕ) (below : t .steps < limit) (cases : StepCases P limit length t window) where
     of-effect : (effect : Effect) → P (applied length rd effect t window)
     unfolding applied written writtenVector storeOf storeQuadOf branched lands
     of-effect (Put x) = cases .next below (written t rd x) refl refl
@@ -116,8 +116,8 @@ module _ (limit : ℕ) (pack : List ℕ) (kernel : Kernel) (t : Thread) (window 
   unfolding stepOf
   instruction-done h on = simp (lt-leb limit (t .steps) h, lt-leb (kernel .length) (t .place) on)
 
-  -- what holds of all that a step can come to holds of the step
-  pub step-cases : (P : State → Type 0) → Outcomes P limit (kernel .length) t window → P (stepOf limit pack kernel t window)
+  -- what holds in each case of a step holds of it
+  pub step-cases : (P : State → Type 0) → StepCases P limit (kernel .length) t window → P (stepOf limit pack kernel t window)
   unfolding executed
   step-cases P cases = go (lt-or-ge (t .steps) limit) (lt-or-ge (t .place) (kernel .length))
     where

@@ -7,7 +7,7 @@ use Prim.Native.Nat.{ℕ, suc, _+_, _*_, _/_, _%_, _≤_, _<_}
 use native.Mathlib.Nat.{mul-add-div-right, mul-add-mod-self-right, div-eq-of-lt, mod-eq-of-lt, zero-div, zero-mod, add-zero}
 use native.Mathlib.Omega.{arith}
 use Rattle.memory.specs.After.{after}
-use Rattle.memory.proofs.After.{after-agree}
+use Rattle.memory.proofs.After.{after-agree, after-stays, after-rows}
 use Rattle.pack.specs.declared.kernels.Kernel.{Kernel}
 use Rattle.kernel.specs.declared.step.Stop.{Stop}
 use Rattle.kernel.specs.declared.step.Stop.the-variants.{OutOfSteps}
@@ -20,9 +20,7 @@ use Rattle.kernel.specs.Thread.{started}
 use Rattle.kernel.specs.Step.{State}
 use Rattle.kernel.specs.Run.{stepsOf, runOf}
 use Rattle.kernel.specs.Dispatch.{Dispatched, ranOf, shown, ifDone, going, threadOf, threadMore, threadsOf, dispatchOf}
-use Rattle.kernel.proofs.Settled.{after-stays}
 use Rattle.kernel.proofs.Dispatches.{no-thread, one-thread-more}
-use Rattle.kernel.proofs.Nested.{after-rows}
 use Rattle.kernel.proofs.StepLimit.{run-not-running, out-of-steps}
 
 -- thread g · threads + j is thread j of group g

@@ -31,9 +31,9 @@ pub record State : Type 0 where
   pub window : List ℕ
 
 -- what a function returns and leaves in the window is this state
-pub record Shows (r : Stepped) (window : List ℕ) (s : State) : Type 0 where
+pub record Shows (r : Stepped) (left : List ℕ) (s : State) : Type 0 where
   pub answer : r ≡ s .stepped
-  pub memory : window ≡ s .window
+  pub window : left ≡ s .window
 
 -- the thread stops and takes no step
 unfoldable pub stops : Stop → Thread → Stepped

@@ -15,7 +15,7 @@ stopped-requires c κs = search needs
 
 returns : tie.Need-returns
 unfolding stepOf
-returns c = rw (le-leb _ _ (c .before .if1 .taken)) (record { answer = c .stopped .ensures; memory = refl })
+returns c = rw (le-leb _ _ (c .before .if1 .taken)) (record { answer = c .stopped .ensures; window = refl })
 
 cast-if2 : tie.Need-cast-if2
 cast-if2 c = search needs
@@ -25,7 +25,7 @@ stopped-requires-2 c κs = search needs
 
 returns-2 : tie.Need-returns-2
 unfolding stepOf
-returns-2 c = simp (lt-leb _ _ (c .before .before .before .before .if1 .left), le-leb _ _ (c .before .if2 .taken)) (record { answer = c .stopped2 .ensures; memory = refl })
+returns-2 c = simp (lt-leb _ _ (c .before .before .before .before .if1 .left), le-leb _ _ (c .before .if2 .taken)) (record { answer = c .stopped2 .ensures; window = refl })
 
 code-word-requires : tie.Need-code-word-requires
 code-word-requires c κs = search needs
