@@ -1,7 +1,6 @@
 -- The instructions that were worked by hand, P4 to P10, on the definitions; P8 and P9 under any limit.
 -- Assumes nothing.
 use mathlib.Core.Path.{_≡_, refl, _∙_}
-use mathlib.Core.Bool.{true}
 use mathlib.Core.List.{List}
 use Prim.Native.Nat.{ℕ, zero, suc, _*_, _^_, _≤_, _<_}
 use native.Mathlib.Numerals.{add-one}
@@ -16,7 +15,6 @@ use Rattle.words.specs.Counts.{firstSet}
 use Rattle.words.specs.Arithmetic.{magnitude}
 use Rattle.memory.specs.Address.{ifInside}
 use Rattle.memory.specs.Place.{wordAt}
-use Rattle.memory.specs.Access.{bytesOf}
 use Rattle.memory.proofs.Reach.{reach-outside}
 use Rattle.instruction.specs.declared.list.Op.the-variants.{Alu, Unary, AluImm}
 use Rattle.instruction.specs.declared.list.AluOp.the-variants.{Add}
@@ -31,7 +29,7 @@ use Rattle.kernel.specs.declared.step.Stop.the-variants.{OutsideTheWindo
 use Rattle.kernel.specs.declared.thread.Thread.{Thread}
 use Rattle.kernel.specs.declared.step.Progress.the-variants.{Stopped}
 use Rattle.kernel.specs.declared.dispatch.Ran.the-variants.{Stopped as StoppedFor}
-use Rattle.pack.specs.Kernels.{kernelCount, firstWord, kernelWords, codeCount, liesInCode, allLie, soundPack, kernelOf}
+use Rattle.pack.specs.Kernels.{kernelCount, firstWord, kernelWords, kernelOf}
 use Rattle.kernel.specs.Registers.{scalarOf, withScalar, startRegisters}
 use Rattle.kernel.specs.Thread.{started, written, advanced, movedTo}
 use Rattle.kernel.specs.Step.{stops, goesOn, lands, branched, afterStore, applied, executed, stepOf}
@@ -64,11 +62,6 @@ pub p7 : (opOf 0x0600030B ≡ Unary Clz) × (scalar 6 (afterWord 0x0600030B fres
 unfolding afterWord started startRegisters executed decoded opOf scalarRow countRow effectOf unaryOf firstSet applied goesOn advanced movedTo written withScalar scalarOf
 p7 = (refl, refl)
 
--- the pack of one kernel of one word is not faulty
-pub pack-of-sound : (w : ℕ) → soundPack (packOf w) ≡ true
-unfolding soundPack kernelCount codeCount allLie liesInCode firstWord kernelWords wordAt
-pack-of-sound w = refl
-
 -- its kernel
 abbrev theKernel : Kernel
 theKernel = record { start = 16; length = 4 }
@@ -87,7 +80,7 @@ module _ (limit groups threads : ℕ) (window : List ℕ) where
   -- FE502E0D (SW at -4 from s0): 13, and nothing is stored
   pub p8 : 1 ≤ limit → 1 ≤ groups → 1 ≤ threads → ListN.length window < 2 ^ 32
       → dispatchOf limit (packOf 0xFE502E0D) 0 groups threads window ≡ record { ran = StoppedFor OutsideTheWindow; window = window }
-  unfolding started stepOf executed decoded opOf storeRow effectOf applied afterStore bytesOf scalarOf ifInside stops wordAt
+  unfolding started stepOf executed decoded opOf storeRow effectOf applied afterStore scalarOf ifInside stops wordAt
   p8 hl hg ht small =
       stopped 0xFE502E0D 0 (started 0 0 threads groups) OutsideTheWindow hg ht (omega arith) (no-step _ _ _ _ _)
       (rw (lt-leb limit 0 hl, reach-outside (ListN.length window) 4294967292 4 (omega arith)))

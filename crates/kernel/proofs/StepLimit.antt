@@ -36,11 +36,6 @@ counted-took limit n Running before now took below counted = omega arith
 counted-took limit n Ended before now took below counted = omega arith
 counted-took limit n (Stopped why) before now took below counted = (omega arith, λ e. omega (arith, counted .1 e))
 
-took-at-most : (limit n : ℕ) (p : Progress) (steps : ℕ) → Took limit n p steps → steps ≤ limit
-took-at-most limit n Running steps h = omega arith
-took-at-most limit n Ended steps h = h
-took-at-most limit n (Stopped why) steps h = h .0
-
 module _ (limit : ℕ) (pack : List ℕ) (kernel : Kernel) where
   more-took : (n : ℕ) (p : Progress) (t : Thread) (window : List ℕ) → Took limit n p (t .steps)
       → TookState limit (suc n) (stepMore limit pack kernel (record { stepped = record { thread = t; progress = p }; window = window }))
@@ -77,11 +72,6 @@ module _ (limit : ℕ) (pack : List ℕ) (kernel : Kernel) where
       pub run-not-running : end .stepped .progress ≡ Running → ⊥
       unfolding runOf
       run-not-running e = omega (arith, (rw e at (state-took (limit + 1))) .1)
-
-      -- and took at most the limit's steps
-      pub run-took : end .stepped .thread .steps ≤ limit
-      unfolding runOf
-      run-took = took-at-most limit (limit + 1) (end .stepped .progress) (end .stepped .thread .steps) (state-took (limit + 1))
 
       -- no thread is stopped with 14 within the limit's steps
       pub not-before-the-limit : (n : ℕ) → n ≤ limit → state n .stepped .progress ≡ Stopped OutOfSteps → ⊥

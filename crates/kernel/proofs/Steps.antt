@@ -3,7 +3,7 @@
 use mathlib.Core.Path.{_≡_, refl}
 use mathlib.Core.Bool.{Bool, true, false, cond, _&&_}
 use mathlib.Core.List.{List}
-use mathlib.Core.Logic.{_↔_, _⊎_, inl, inr}
+use mathlib.Core.Logic.{_⊎_, inl, inr}
 use Prim.Native.Nat.{ℕ, _+_, _%_, _≤_, _<_}
 use native.Mathlib.Omega.{arith}
 use lib.Dec.{eqb, ltb}
@@ -139,8 +139,3 @@ module _ (limit : ℕ) (pack : List ℕ) (kernel : Kernel) (t : Thread) (window 
     ended = λ h. (refl, h);
     stopped = λ why only. (refl, only);
   })
-
-  -- 14 is given exactly to a thread that already took the limit's steps
-  pub step-out-of-steps : (stepOf limit pack kernel t window .stepped .progress ≡ Stopped OutOfSteps) ↔ (limit ≤ t .steps)
-  unfolding stops
-  step-out-of-steps = (λ e. (rw e at step-counts) .1 refl, λ h. rw (at-the-limit h))
