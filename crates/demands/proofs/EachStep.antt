@@ -9,10 +9,10 @@ use native.Mathlib.Omega.{arith}
 use Rattle.memory.specs.Address.{ifInside}
 use Rattle.memory.specs.Access.{loadOf, storeOf}
 use Rattle.memory.specs.Quad.{loadQuadOf, storeQuadOf}
-use Rattle.instruction.specs.declared.effect.Stop.the-variants.{NotListed, OffTheKernel, OutsideTheWindow, OutOfSteps}
 use Rattle.instruction.specs.Decode.{decoded}
 use Rattle.instruction.specs.Effect.{loadedEffect, loadedQuadEffect, effectOf}
 use Rattle.pack.specs.declared.kernels.Kernel.{Kernel}
+use Rattle.kernel.specs.declared.step.Stop.the-variants.{NotListed, OffTheKernel, OutsideTheWindow, OutOfSteps}
 use Rattle.kernel.specs.declared.thread.Thread.{Thread}
 use Rattle.kernel.specs.declared.dispatch.Ran.{Ran}
 use Rattle.kernel.specs.declared.dispatch.Ran.the-variants.{Done, Stopped as StoppedFor}
@@ -91,8 +91,8 @@ step-by-rule limit pack kernel t window = record {
   branch = λ rd offset e. rw e;
   store = λ rd width a x e. rw e;
   store-quad = λ rd a q e. rw e;
-  load = λ width imm x y vectors e. rw e;
-  load-quad = λ vd x y vectors e. rw e;
+  load = λ rd width imm x y vectors e. rw e;
+  load-quad = λ rd vd x y vectors e. rw e;
 }
 
 -- a thread at its start is tied to the limit

@@ -11,6 +11,7 @@ use Rattle.instruction.specs.Vectors.{quadOf, withQuad, lanesOfQuads, broadcast
 use Rattle.kernel.specs.Registers.{startRegisters, withVector}
 use Rattle.kernel.specs.Thread.{started, writtenVector, movedTo, advanced}
 use Rattle.kernel.specs.Step.{goesOn, applied, executed}
+use Rattle.kernel.specs.Run.{stepLimit}
 use Rattle.kernel.proofs.Examples as kernel
 use Rattle.kernel.specs.Examples.{afterWord}
 use Rattle.demands.specs.Table.{colored, holding, vector, Table}
@@ -53,12 +54,12 @@ table = record {
   p6 = kernel.p6;
   p7 = kernel.p7 .1;
   p8 = (
-    λ groups threads window hg ht small. let run = kernel.p8 groups threads window hg ht small in record { outcome = rw run; kept = rw run },
-    let run = kernel.p8 1 1 (replicate 64 0) (omega arith) (omega arith) (omega arith) in (refl, rw run),
+    λ groups threads window hg ht small. let run = kernel.p8 stepLimit groups threads window (omega arith) hg ht small in record { outcome = rw run; kept = rw run },
+    let run = kernel.p8 stepLimit 1 1 (replicate 64 0) (omega arith) (omega arith) (omega arith) (omega arith) in (refl, rw run),
   );
   p9 = (
-    λ groups threads window hg ht. let run = kernel.p9 groups threads window hg ht in record { outcome = rw run; kept = rw run },
-    let run = kernel.p9 1 1 (replicate 64 0) (omega arith) (omega arith) in (refl, rw run),
+    λ groups threads window hg ht. let run = kernel.p9 stepLimit groups threads window hg ht in record { outcome = rw run; kept = rw run },
+    let run = kernel.p9 stepLimit 1 1 (replicate 64 0) (omega arith) (omega arith) in (refl, rw run),
   );
   p10 = vadd;
   p11 = (record { served = refl; ring = refl }, record { served = refl; ring = refl }, record { served = refl; ring = refl }, record { served = refl; ring = refl });

@@ -15,19 +15,19 @@ use Rattle.memory.specs.Address.{reachOf}
 use Rattle.memory.specs.Window.{windowOf, putBack}
 use Rattle.instruction.specs.declared.list.Instr.{Instr}
 use Rattle.instruction.specs.declared.list.Op.the-variants.{Load, Vld, Wfi, Unlisted}
-use Rattle.instruction.specs.declared.effect.Stop.{Stop}
-use Rattle.instruction.specs.declared.effect.Stop.the-variants.{NotListed, OffTheKernel, OutsideTheWindow, OutOfSteps}
-use Rattle.instruction.specs.declared.effect.Effect.the-variants.{Store, StoreQuad, Go, Stop as StopFor}
+use Rattle.instruction.specs.declared.effect.Effect.the-variants.{Store, StoreQuad, Go}
 use Rattle.instruction.specs.Decode.{opOf, decoded}
 use Rattle.instruction.specs.Effect.{effectOf}
 use Rattle.pack.specs.declared.kernels.Kernel.{Kernel}
+use Rattle.kernel.specs.declared.step.Stop.{Stop}
+use Rattle.kernel.specs.declared.step.Stop.the-variants.{NotListed, OffTheKernel, OutsideTheWindow, OutOfSteps}
 use Rattle.kernel.specs.declared.thread.Thread.{Thread}
 use Rattle.kernel.specs.declared.step.Progress.the-variants.{Running, Ended, Stopped}
 use Rattle.kernel.specs.declared.dispatch.Ran.the-variants.{Stopped as StoppedFor}
 use Rattle.pack.specs.Kernels.{kernelOf, codeWord}
 use Rattle.kernel.specs.Registers.{scalarOf}
 use Rattle.kernel.specs.Thread.{started}
-use Rattle.kernel.specs.Step.{State, stops, ends, lands, applied, executed, stepOf}
+use Rattle.kernel.specs.Step.{stoppedAs, endsThread, lands, applied, executed, stepOf}
 use Rattle.kernel.specs.Run.{running, stepsOf, runOf}
 use Rattle.kernel.specs.Dispatch.{Dispatched, shown, going, threadOf, threadsOf}
 use Rattle.command.specs.Opcode.{dispatch1D}
@@ -99,10 +99,6 @@ pub record StepsInOrder (limit : ℕ) (pack : List ℕ) (kernel : Kernel) (t : T
   pub stop : (n : ℕ) (why : Stop) → stepsOf n limit pack kernel t window .stepped .progress ≡ Stopped why
       → stepsOf (suc n) limit pack kernel t window ≡ stepsOf n limit pack kernel t window
 
--- the thread has stopped, and it and the window are as they were
-abbrev pub stoppedAs : Stop → Thread → List ℕ → State
-stoppedAs why t window = record { stepped = stops why t; window = window }
-
 -- one step: 14, then running off the end (12), then 11, then the branch (12) or address (13)
 pub record StepByRule (limit : ℕ) (pack : List ℕ) (kernel : Kernel) (t : Thread) (window : List ℕ) : Type 0 where
   -- a thread that already took the limit's steps
@@ -128,10 +124,10 @@ pub record StepByRule (limit : ℕ) (pack : List ℕ) (kernel : Kernel) (t : Thr
   pub store-quad : (rd a : ℕ) (q : Quad) → reachOf (length window) a 16 ≡ Outside
       → applied (kernel .length) rd (StoreQuad a q) t window ≡ stoppedAs OutsideTheWindow t window
   -- a load not wholly in the window
-  pub load : (width : Width) (imm x y : ℕ) (vectors : List ℕ) → reachOf (length window) (sum 32 x imm) (bytesOf width) ≡ Outside
-      → effectOf (Load width imm) x y vectors window ≡ StopFor OutsideTheWindow
-  pub load-quad : (vd x y : ℕ) (vectors : List ℕ) → reachOf (length window) x 16 ≡ Outside
-      → effectOf (Vld vd) x y vectors window ≡ StopFor OutsideTheWindow
+  pub load : (rd : ℕ) (width : Width) (imm x y : ℕ) (vectors : List ℕ) → reachOf (length window) (sum 32 x imm) (bytesOf width) ≡ Outside
+      → applied (kernel .length) rd (effectOf (Load width imm) x y vectors window) t window ≡ stoppedAs OutsideTheWindow t window
+  pub load-quad : (rd vd x y : ℕ) (vectors : List ℕ) → reachOf (length window) x 16 ≡ Outside
+      → applied (kernel .length) rd (effectOf (Vld vd) x y vectors window) t window ≡ stoppedAs OutsideTheWindow t window
 
 -- the step limit of a thread that has taken no step: 14 is tied to the state after that many steps
 pub record LimitTied (limit : ℕ) (pack : List ℕ) (kernel : Kernel) (t : Thread) (window : List ℕ) : Type 0 where
@@ -145,7 +141,7 @@ pub record LimitTied (limit : ℕ) (pack : List ℕ) (kernel : Kernel) (t : Thre
   -- a WFI that is step number `limit` ends the thread, and 14 is not given
   pub wfi : (n : ℕ) (t′ : Thread) (window′ : List ℕ) → n + 1 ≡ limit → stepsOf n limit pack kernel t window ≡ running t′ window′
       → t′ .place < kernel .length → opOf (codeWord pack kernel (t′ .place)) ≡ Wfi
-      → runOf limit pack kernel t window ≡ record { stepped = ends t′; window = window′ }
+      → runOf limit pack kernel t window ≡ record { stepped = endsThread t′; window = window′ }
 
 -- no thread before this one stopped, and on the window that those left it is still running after the limit's steps
 pub record FirstOutOfSteps (limit : ℕ) (pack : List ℕ) (kernel : Kernel) (groups threads : ℕ) (window : List ℕ) : Type 0 where

@@ -6,7 +6,7 @@ use mathlib.Core.List.{List}
 use mathlib.Core.Logic.{_⊎_, inl, inr}
 use Prim.Native.Nat.{ℕ, _≤_}
 use lib.Dec.{lit≤}
-use Rattle.instruction.specs.declared.effect.Stop.the-variants.{NotListed, OffTheKernel, OutsideTheWindow, OutOfSteps}
+use Rattle.kernel.specs.declared.step.Stop.the-variants.{NotListed, OffTheKernel, OutsideTheWindow, OutOfSteps}
 use Rattle.kernel.specs.declared.dispatch.Ran.{Ran}
 use Rattle.kernel.specs.declared.dispatch.Ran.the-variants.{Done, Stopped}
 use Rattle.command.specs.declared.outcome.Outcome.{Outcome}

@@ -6,7 +6,7 @@ use lib.Dec.{eqb}
 use Rattle.memory.specs.Rectangle.{filled}
 use Rattle.memory.specs.Copy.{copied, blitted}
 use Rattle.memory.specs.Transfer.{transferred}
-use Rattle.instruction.specs.declared.effect.Stop.the-variants.{NotListed as Unlisted, OffTheKernel as OffIt, OutsideTheWindow as OffTheWindow, OutOfSteps as NoStepsLeft}
+use Rattle.kernel.specs.declared.step.Stop.the-variants.{NotListed as Unlisted, OffTheKernel as OffIt, OutsideTheWindow as OffTheWindow, OutOfSteps as NoStepsLeft}
 use Rattle.kernel.specs.declared.dispatch.Ran.{Ran}
 use Rattle.kernel.specs.declared.dispatch.Ran.the-variants.{Done as RanToItsEnd, Stopped}
 use Rattle.kernel.specs.Dispatch.{Dispatched, dispatchOf}
