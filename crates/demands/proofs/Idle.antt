@@ -146,7 +146,8 @@ module _ (R : ℕ → List ℕ) where
     next-slot s =
         let c = headIn d call r in
         let free = few R d t took call sound (c .rdst) in
-        let hits = slot-hit d r c (workIn d call r .performed) (took .shaped) free (emits-when-sound _ _ _ _ _ _ _ _ (ne-eqb _ _ (λ full. omega (arith, free, full)))) s in
+        let not-full = ne-eqb (slotOf d (c .rdst)) 4294967295 (λ is. omega (arith, free, is)) in
+        let hits = slot-hit d r c (workIn d call r .performed) (took .shaped) free (emits-when-sound _ _ _ _ _ _ _ _ not-full) s in
         let same : hit c s ≡ hit (nth (R r) (t r)) s = ap (λ k. hit k s) head in
         omega (arith, hits, same, took .slots s, count-more R t r s ring-below)
 

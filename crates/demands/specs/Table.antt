@@ -14,7 +14,6 @@ use Rattle.instruction.specs.Vectors.{quadOf, broadcast}
 use Rattle.kernel.specs.declared.thread.Thread.{Thread}
 use Rattle.kernel.specs.Thread.{writtenVector}
 use Rattle.kernel.specs.Dispatch.{Dispatched, dispatchOf}
-use Rattle.kernel.specs.Run.{stepLimit}
 use Rattle.kernel.specs.Examples.{freshThread, afterWord, scalar, packOf}
 use Rattle.command.specs.declared.frame.Frame.the-variants.{Held}
 use Rattle.command.specs.Outcome.{outcomeNumber}
@@ -115,13 +114,13 @@ pub record Table : Type 0 where
   pub p6 : (opOf 0x0002930B ≡ Unary Abs) × (scalar 6 (afterWord 0x0002930B (afterWord 0xFFF00297 freshThread)) ≡ 1)
   -- 0600030B (CLZ of s0): 32
   pub p7 : scalar 6 (afterWord 0x0600030B freshThread) ≡ 32
-  -- FE502E0D (SW at -4 from s0): 13, in any dispatch and as a whole turn
-  pub p8 : ((groups threads : ℕ) (window : List ℕ) → 1 ≤ groups → 1 ≤ threads → length window < 2 ^ 32
-      → EndsWith 13 window (dispatchOf stepLimit (packOf 0xFE502E0D) 0 groups threads window))
+  -- FE502E0D (SW at -4 from s0): 13, in any dispatch of at least one step and as a whole turn
+  pub p8 : ((limit groups threads : ℕ) (window : List ℕ) → 1 ≤ limit → 1 ≤ groups → 1 ≤ threads → length window < 2 ^ 32
+      → EndsWith 13 window (dispatchOf limit (packOf 0xFE502E0D) 0 groups threads window))
       × OutcomeOn0 13 (turnOf (framed 64 0) (oneThread 0xFE502E0D))
   -- 0000000E branches to itself: 14
-  pub p9 : ((groups threads : ℕ) (window : List ℕ) → 1 ≤ groups → 1 ≤ threads
-      → EndsWith 14 window (dispatchOf stepLimit (packOf 0x0000000E) 0 groups threads window))
+  pub p9 : ((limit groups threads : ℕ) (window : List ℕ) → 1 ≤ groups → 1 ≤ threads
+      → EndsWith 14 window (dispatchOf limit (packOf 0x0000000E) 0 groups threads window))
       × OutcomeOn0 14 (turnOf (framed 64 0) (oneThread 0x0000000E))
   -- VADD.I8 of 010000FF and 01000001: 02000000; as I16: 02000100 (0020A1AF and 002091AF, v1 and v2 to v3)
   pub p10 : (vector 3 (afterWord 0x0020A1AF (holding 0x010000FF 0x01000001)) ≡ broadcast 0x02000000)
