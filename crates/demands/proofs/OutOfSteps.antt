@@ -7,9 +7,9 @@ use Prim.Native.Nat.{ℕ, zero, suc, _+_, _*_, _/_, _%_, _≤_, _<_}
 use native.Mathlib.Nat.{mod-lt, div-lt-iff-lt-mul, div-add-mod', mul-le-mul, suc-mul}
 use native.Mathlib.Numerals.{add-one}
 use native.Mathlib.Omega.{arith}
-use Rattle.instruction.specs.declared.effect.Stop.{Stop}
-use Rattle.instruction.specs.declared.effect.Stop.the-variants.{OutOfSteps}
 use Rattle.pack.specs.declared.kernels.Kernel.{Kernel}
+use Rattle.kernel.specs.declared.step.Stop.{Stop}
+use Rattle.kernel.specs.declared.step.Stop.the-variants.{OutOfSteps}
 use Rattle.kernel.specs.declared.dispatch.Ran.{Ran}
 use Rattle.kernel.specs.declared.dispatch.Ran.the-variants.{Done, Stopped}
 use Rattle.kernel.specs.Dispatch.{Dispatched, going, threadOf, threadsOf}

@@ -3,29 +3,28 @@
 use mathlib.Core.Bool.{Bool, true, false, cond}
 use Prim.Native.Nat.{ℕ}
 use Rattle.memory.specs.declared.access.Loaded.{Loaded}
-use Rattle.memory.specs.declared.access.Loaded.the-variants.{Value, Outside}
+use Rattle.memory.specs.declared.access.Loaded.the-variants.{Value, Outside as NoValue}
 use Rattle.memory.specs.declared.quad.Quad.{Quad}
 use Rattle.memory.specs.declared.quad.LoadedQuad.{LoadedQuad}
-use Rattle.memory.specs.declared.quad.LoadedQuad.the-variants.{Words, Outside as QuadOutside}
+use Rattle.memory.specs.declared.quad.LoadedQuad.the-variants.{Words, Outside as NoWords}
 use Rattle.instruction.specs.declared.list.Cond.{Cond}
-use Rattle.instruction.specs.declared.effect.Stop.the-variants.{OutsideTheWindow}
 use Rattle.instruction.specs.declared.effect.Effect.{Effect}
-use Rattle.instruction.specs.declared.effect.Effect.the-variants.{Put, PutQuad, Go, Next, Stop}
+use Rattle.instruction.specs.declared.effect.Effect.the-variants.{Put, PutQuad, Go, Next, Outside}
 use Rattle.instruction.specs.Meaning.{holdsOf}
 use Rattle.instruction.specs.Effect.{loadedEffect, loadedQuadEffect, branchEffect}
 
 module _ (P : Effect → Type 0) where
-  -- a load puts a scalar or stops
-  pub of-load : (l : Loaded) → ((x : ℕ) → P (Put x)) → P (Stop OutsideTheWindow) → P (loadedEffect l)
+  -- a load puts a scalar or is outside
+  pub of-load : (l : Loaded) → ((x : ℕ) → P (Put x)) → P Outside → P (loadedEffect l)
   unfolding loadedEffect
-  of-load (Value x) put stop = put x
-  of-load Outside put stop = stop
+  of-load (Value x) put outside = put x
+  of-load NoValue put outside = outside
 
-  -- a load of four words puts them or stops
-  pub of-quad-load : (vd : ℕ) (l : LoadedQuad) → ((q : Quad) → P (PutQuad vd q)) → P (Stop OutsideTheWindow) → P (loadedQuadEffect vd l)
+  -- a load of four words puts them or is outside
+  pub of-quad-load : (vd : ℕ) (l : LoadedQuad) → ((q : Quad) → P (PutQuad vd q)) → P Outside → P (loadedQuadEffect vd l)
   unfolding loadedQuadEffect
-  of-quad-load vd (Words q) put stop = put q
-  of-quad-load vd QuadOutside put stop = stop
+  of-quad-load vd (Words q) put outside = put q
+  of-quad-load vd NoWords put outside = outside
 
   either : (taken : Bool) (offset : ℕ) → P (Go offset) → P Next → P (cond taken (Go offset) Next)
   either true offset go next = go

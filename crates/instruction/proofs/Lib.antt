@@ -1,4 +1,2 @@
 pub mod Effects
-pub mod Stops
 pub mod OperandLaws
-pub mod OperandsCount

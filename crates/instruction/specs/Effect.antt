@@ -6,27 +6,26 @@ use Rattle.words.specs.Arithmetic.{sum}
 use Rattle.memory.specs.Access.{loadOf}
 use Rattle.memory.specs.Quad.{loadQuadOf}
 use Rattle.memory.specs.declared.access.Loaded.{Loaded}
-use Rattle.memory.specs.declared.access.Loaded.the-variants.{Value, Outside}
+use Rattle.memory.specs.declared.access.Loaded.the-variants.{Value, Outside as NoValue}
 use Rattle.memory.specs.declared.quad.LoadedQuad.{LoadedQuad}
-use Rattle.memory.specs.declared.quad.LoadedQuad.the-variants.{Words, Outside as QuadOutside}
+use Rattle.memory.specs.declared.quad.LoadedQuad.the-variants.{Words, Outside as NoWords}
 use Rattle.instruction.specs.declared.list.Cond.{Cond}
 use Rattle.instruction.specs.declared.list.Op.{Op}
 use Rattle.instruction.specs.declared.list.Op.the-variants.{Alu, Unary, AluImm, Lui, Branch, Load, Store, Membar, Wfi, Vector, Vbcast, Vextr, Vld, Vst, Unlisted}
-use Rattle.instruction.specs.declared.effect.Stop.the-variants.{NotListed, OutsideTheWindow}
 use Rattle.instruction.specs.declared.effect.Effect.{Effect}
-use Rattle.instruction.specs.declared.effect.Effect.the-variants.{Put, PutQuad, Store as StoreAt, StoreQuad, Go, Next, End, Stop}
+use Rattle.instruction.specs.declared.effect.Effect.the-variants.{Put, PutQuad, Store as StoreAt, StoreQuad, Go, Next, End, NotListed, Outside}
 use Rattle.instruction.specs.Meaning.{aluOf, unaryOf, holdsOf}
 use Rattle.instruction.specs.Vectors.{quadOf, lanesOfQuads, broadcast}
 
--- what was read goes to scalar rd; a load not wholly in the window stops the thread
+-- what was read goes to scalar rd, unless the load is not wholly in the window
 unfoldable pub loadedEffect : Loaded → Effect
 loadedEffect (Value x) = Put x
-loadedEffect Outside = Stop OutsideTheWindow
+loadedEffect NoValue = Outside
 
 -- the same for 16 bytes to a vector register
 unfoldable pub loadedQuadEffect : ℕ → LoadedQuad → Effect
 loadedQuadEffect vd (Words q) = PutQuad vd q
-loadedQuadEffect vd QuadOutside = Stop OutsideTheWindow
+loadedQuadEffect vd NoWords = Outside
 
 -- a branch is taken if its comparison holds
 unfoldable pub branchEffect : Cond → ℕ → ℕ → ℕ → Effect
@@ -49,4 +48,4 @@ effectOf (Vbcast vd) x y vectors window = PutQuad vd (broadcast x)
 effectOf (Vextr v1) x y vectors window = Put (quadOf vectors (v1 % 32) .w0)
 effectOf (Vld vd) x y vectors window = loadedQuadEffect vd (loadQuadOf window x)
 effectOf (Vst v2) x y vectors window = StoreQuad x (quadOf vectors (v2 % 32))
-effectOf Unlisted x y vectors window = Stop NotListed
+effectOf Unlisted x y vectors window = NotListed

@@ -17,18 +17,6 @@ use memory::quad::Quad;
 use memory::quad::load_quad;
 use words::arithmetic::add;
 
-// Why a thread stopped before its end.
-pub enum Stop {
-    // The word is not in the instruction list.
-    NotListed,
-    // A taken branch out of the kernel or off a multiple of 4, or running off its end.
-    OffTheKernel,
-    // A load or store not wholly in the window.
-    OutsideTheWindow,
-    // The thread already took the limit's steps.
-    OutOfSteps,
-}
-
 pub enum Effect {
     // To scalar rd.
     Put(u32),
@@ -43,7 +31,10 @@ pub enum Effect {
     Next,
     // The thread's end.
     End,
-    Stop(Stop),
+    // The word is not in the list.
+    NotListed,
+    // A load not wholly in the window.
+    Outside,
 }
 
 fn loaded_effect(loaded: Loaded) -> Effect
@@ -51,7 +42,7 @@ fn loaded_effect(loaded: Loaded) -> Effect
 {
     match loaded {
         Loaded::Value(x) => Effect::Put(x),
-        Loaded::Outside => Effect::Stop(Stop::OutsideTheWindow),
+        Loaded::Outside => Effect::Outside,
     }
 }
 
@@ -60,7 +51,7 @@ fn loaded_quad_effect(vd: u32, loaded: LoadedQuad) -> Effect
 {
     match loaded {
         LoadedQuad::Words(q) => Effect::PutQuad(vd, q),
-        LoadedQuad::Outside => Effect::Stop(Stop::OutsideTheWindow),
+        LoadedQuad::Outside => Effect::Outside,
     }
 }
 
@@ -98,6 +89,6 @@ pub fn effect_of(op: Op, x: u32, y: u32, vectors: &[u32; 128], window: &[u8]) ->
         Op::Vextr { v1 } => Effect::Put(quad(vectors, v1).w0),
         Op::Vld { vd } => loaded_quad_effect(vd, load_quad(window, x)),
         Op::Vst { v2 } => Effect::StoreQuad(x, quad(vectors, v2)),
-        Op::Unlisted => Effect::Stop(Stop::NotListed),
+        Op::Unlisted => Effect::NotListed,
     }
 }

@@ -6,9 +6,9 @@ use Prim.Native.Nat.{ℕ, zero, suc, _+_, _*_, _≤_, _<_}
 use native.Mathlib.Nat.{mul-zero, zero-lt-suc, not-suc-le-zero}
 use native.Mathlib.Numerals.{add-one}
 use Rattle.memory.specs.After.{after}
-use Rattle.instruction.specs.declared.effect.Stop.{Stop}
-use Rattle.kernel.proofs.Settled.{after-stays}
+use Rattle.memory.proofs.After.{after-stays}
 use Rattle.pack.specs.declared.kernels.Kernel.{Kernel}
+use Rattle.kernel.specs.declared.step.Stop.{Stop}
 use Rattle.kernel.specs.declared.dispatch.Ran.{Ran}
 use Rattle.kernel.specs.declared.dispatch.Ran.the-variants.{Done, Stopped}
 use Rattle.kernel.specs.Dispatch.{ShowsRan, ifDone, going, threadOf, threadMore, threadsOf}
@@ -33,7 +33,7 @@ module _ (limit : ℕ) (pack : List ℕ) (kernel : Kernel) (groups threads : ℕ
   pub still-going : (n : ℕ) (window′ window″ : List ℕ) (r : Ran) → threadsOf n limit pack kernel groups threads window ≡ going window′
       → ShowsRan r window″ (threadOf limit pack kernel groups threads n window′) → r ≡ Done
       → threadsOf (n + 1) limit pack kernel groups threads window ≡ going window″
-  still-going n window′ window″ r e s done = one-thread-more n window′ e ∙ (rw (← done, s .answer, s .memory))
+  still-going n window′ window″ r e s done = one-thread-more n window′ e ∙ (rw (← done, s .answer, s .window))
 
   -- a stop ends the whole dispatch
   pub stop-stays : (n m : ℕ) (window′ window″ : List ℕ) (r : Ran) (why : Stop) → n + 1 ≤ m
@@ -45,4 +45,4 @@ module _ (limit : ℕ) (pack : List ℕ) (kernel : Kernel) (groups threads : ℕ
       let here = one-thread-more n window′ e in
       let at-stop : threadsOf (n + 1) limit pack kernel groups threads window .ran ≡ Stopped why = rw (here, ← s .answer, stopped) in
       let stays = after-stays (threadMore limit pack kernel groups threads) (going window) (n + 1) m h (λ i. rw at-stop) in
-      rw (stays, here) (record { answer = rw (← stopped) (s .answer); memory = s .memory })
+      rw (stays, here) (record { answer = rw (← stopped) (s .answer); window = s .window })

@@ -1,7 +1,6 @@
--- The instructions that were worked by hand, P4 to P10, on the definitions.
+-- The instructions that were worked by hand, P4 to P10, on the definitions; P8 and P9 under any limit.
 -- Assumes nothing.
 use mathlib.Core.Path.{_≡_, refl, _∙_}
-use mathlib.Core.Bool.{true}
 use mathlib.Core.List.{List}
 use Prim.Native.Nat.{ℕ, zero, suc, _*_, _^_, _≤_, _<_}
 use native.Mathlib.Numerals.{add-one}
@@ -16,26 +15,25 @@ use Rattle.words.specs.Counts.{firstSet}
 use Rattle.words.specs.Arithmetic.{magnitude}
 use Rattle.memory.specs.Address.{ifInside}
 use Rattle.memory.specs.Place.{wordAt}
-use Rattle.memory.specs.Access.{bytesOf}
 use Rattle.memory.proofs.Reach.{reach-outside}
 use Rattle.instruction.specs.declared.list.Op.the-variants.{Alu, Unary, AluImm}
 use Rattle.instruction.specs.declared.list.AluOp.the-variants.{Add}
 use Rattle.instruction.specs.declared.list.UnaryOp.the-variants.{Abs, Clz}
-use Rattle.instruction.specs.declared.effect.Stop.{Stop}
-use Rattle.instruction.specs.declared.effect.Stop.the-variants.{OutsideTheWindow, OutOfSteps}
 use Rattle.instruction.specs.Rows.{scalarRow, plainRow, countRow, immediateRow, storeRow, branchRow}
 use Rattle.instruction.specs.Decode.{opOf, decoded}
 use Rattle.instruction.specs.Meaning.{aluOf, unaryOf, holdsOf}
 use Rattle.instruction.specs.Effect.{branchEffect, effectOf}
 use Rattle.pack.specs.declared.kernels.Kernel.{Kernel}
+use Rattle.kernel.specs.declared.step.Stop.{Stop}
+use Rattle.kernel.specs.declared.step.Stop.the-variants.{OutsideTheWindow, OutOfSteps}
 use Rattle.kernel.specs.declared.thread.Thread.{Thread}
 use Rattle.kernel.specs.declared.step.Progress.the-variants.{Stopped}
 use Rattle.kernel.specs.declared.dispatch.Ran.the-variants.{Stopped as StoppedFor}
-use Rattle.pack.specs.Kernels.{kernelCount, firstWord, kernelWords, codeCount, liesInCode, allLie, soundPack, kernelOf}
+use Rattle.pack.specs.Kernels.{kernelCount, firstWord, kernelWords, kernelOf}
 use Rattle.kernel.specs.Registers.{scalarOf, withScalar, startRegisters}
 use Rattle.kernel.specs.Thread.{started, written, advanced, movedTo}
 use Rattle.kernel.specs.Step.{stops, goesOn, lands, branched, afterStore, applied, executed, stepOf}
-use Rattle.kernel.specs.Run.{stepLimit, running, stepsOf}
+use Rattle.kernel.specs.Run.{running, stepsOf}
 use Rattle.kernel.specs.Dispatch.{ranOf, shown, dispatchOf}
 use Rattle.kernel.specs.Examples.{freshThread, afterWord, scalar, packOf}
 use Rattle.kernel.proofs.Runs.{no-step}
@@ -64,57 +62,52 @@ pub p7 : (opOf 0x0600030B ≡ Unary Clz) × (scalar 6 (afterWord 0x0600030B fres
 unfolding afterWord started startRegisters executed decoded opOf scalarRow countRow effectOf unaryOf firstSet applied goesOn advanced movedTo written withScalar scalarOf
 p7 = (refl, refl)
 
--- the pack of one kernel of one word is not faulty
-pub pack-of-sound : (w : ℕ) → soundPack (packOf w) ≡ true
-unfolding soundPack kernelCount codeCount allLie liesInCode firstWord kernelWords wordAt
-pack-of-sound w = refl
-
 -- its kernel
 abbrev theKernel : Kernel
 theKernel = record { start = 16; length = 4 }
 
-module _ (groups threads : ℕ) (window : List ℕ) where
+module _ (limit groups threads : ℕ) (window : List ℕ) where
   -- a dispatch whose first thread is stopped by a step that finds the window as it was
-  stopped : (w n : ℕ) (t : Thread) (why : Stop) → 1 ≤ groups → 1 ≤ threads → n ≤ stepLimit
-      → stepsOf n stepLimit (packOf w) theKernel (started 0 0 threads groups) window ≡ running t window
-      → stepOf stepLimit (packOf w) theKernel t window .stepped .progress ≡ Stopped why
-      → dispatchOf stepLimit (packOf w) 0 groups threads window ≡ record { ran = StoppedFor why; window = window }
+  stopped : (w n : ℕ) (t : Thread) (why : Stop) → 1 ≤ groups → 1 ≤ threads → n ≤ limit
+      → stepsOf n limit (packOf w) theKernel (started 0 0 threads groups) window ≡ running t window
+      → stepOf limit (packOf w) theKernel t window .stepped .progress ≡ Stopped why
+      → dispatchOf limit (packOf w) 0 groups threads window ≡ record { ran = StoppedFor why; window = window }
   unfolding dispatchOf shown ranOf stops kernelOf kernelCount firstWord kernelWords wordAt
   stopped w n t why hg ht h e stop =
-      let run = stopped-run stepLimit (packOf w) theKernel (started 0 0 threads groups) window n t window why h e stop in
-      first-stops stepLimit (packOf w) theKernel groups threads window (groups * threads) why (mul-pos hg ht) (rw run) ∙ (rw run)
+      let run = stopped-run limit (packOf w) theKernel (started 0 0 threads groups) window n t window why h e stop in
+      first-stops limit (packOf w) theKernel groups threads window (groups * threads) why (mul-pos hg ht) (rw run) ∙ (rw run)
 
   -- FE502E0D (SW at -4 from s0): 13, and nothing is stored
-  pub p8 : 1 ≤ groups → 1 ≤ threads → ListN.length window < 2 ^ 32
-      → dispatchOf stepLimit (packOf 0xFE502E0D) 0 groups threads window ≡ record { ran = StoppedFor OutsideTheWindow; window = window }
-  unfolding started stepOf executed decoded opOf storeRow effectOf applied afterStore bytesOf scalarOf ifInside stops wordAt
-  p8 hg ht small =
+  pub p8 : 1 ≤ limit → 1 ≤ groups → 1 ≤ threads → ListN.length window < 2 ^ 32
+      → dispatchOf limit (packOf 0xFE502E0D) 0 groups threads window ≡ record { ran = StoppedFor OutsideTheWindow; window = window }
+  unfolding started stepOf executed decoded opOf storeRow effectOf applied afterStore scalarOf ifInside stops wordAt
+  p8 hl hg ht small =
       stopped 0xFE502E0D 0 (started 0 0 threads groups) OutsideTheWindow hg ht (omega arith) (no-step _ _ _ _ _)
-      (rw (reach-outside (ListN.length window) 4294967292 4 (omega arith)))
+      (rw (lt-leb limit 0 hl, reach-outside (ListN.length window) 4294967292 4 (omega arith)))
 
   -- the thread after n branches to itself
   abbrev spun : ℕ → Thread
   spun n = record { registers = startRegisters 0 0 threads groups; place = 0; steps = n }
 
-  spin : (limit n : ℕ) → n < limit → stepOf limit (packOf 0x0000000E) theKernel (spun n) window ≡ running (spun (suc n)) window
+  spin : (n : ℕ) → n < limit → stepOf limit (packOf 0x0000000E) theKernel (spun n) window ≡ running (spun (suc n)) window
   unfolding stepOf executed decoded opOf branchRow effectOf branchEffect holdsOf applied branched lands movedTo scalarOf wordAt running
-  spin limit n h = rw (lt-leb limit n h, add-one)
+  spin n h = rw (lt-leb limit n h, add-one)
 
-  spins : (limit n : ℕ) → n ≤ limit → stepsOf n limit (packOf 0x0000000E) theKernel (spun 0) window ≡ running (spun n) window
+  spins : (n : ℕ) → n ≤ limit → stepsOf n limit (packOf 0x0000000E) theKernel (spun 0) window ≡ running (spun n) window
   unfolding running
-  spins limit zero h = no-step limit (packOf 0x0000000E) theKernel (spun 0) window
-  spins limit (suc n) h =
+  spins zero h = no-step limit (packOf 0x0000000E) theKernel (spun 0) window
+  spins (suc n) h =
       one-more limit _ theKernel (spun 0) window n
-      ∙ (rw (spins limit n (omega arith)) (more-running limit _ theKernel (running (spun n) window) refl))
-      ∙ spin limit n h
+      ∙ (rw (spins n (omega arith)) (more-running limit _ theKernel (running (spun n) window) refl))
+      ∙ spin n h
 
   -- 0000000E branches to itself: 14
   pub p9 : 1 ≤ groups → 1 ≤ threads
-      → dispatchOf stepLimit (packOf 0x0000000E) 0 groups threads window ≡ record { ran = StoppedFor OutOfSteps; window = window }
+      → dispatchOf limit (packOf 0x0000000E) 0 groups threads window ≡ record { ran = StoppedFor OutOfSteps; window = window }
   unfolding started stops
   p9 hg ht =
-      stopped 0x0000000E stepLimit (spun stepLimit) OutOfSteps hg ht (omega arith) (spins stepLimit stepLimit (omega arith))
-      (rw (at-the-limit stepLimit (packOf 0x0000000E) theKernel (spun stepLimit) window (omega arith)))
+      stopped 0x0000000E limit (spun limit) OutOfSteps hg ht (omega arith) (spins limit (omega arith))
+      (rw (at-the-limit limit (packOf 0x0000000E) theKernel (spun limit) window (omega arith)))
 
 -- VADD.I8 of 010000FF and 01000001: 02000000; as I16: 02000100
 pub p10 : (lanesOf VAdd I8 0x010000FF 0x01000001 ≡ 0x02000000) × (lanesOf VAdd I16 0x010000FF 0x01000001 ≡ 0x02000100)

@@ -14,7 +14,7 @@ use Rattle.kernel.specs.declared.step.Progress.{Progress}
 use Rattle.kernel.specs.declared.step.Progress.the-variants.{Running, Ended, Stopped}
 use Rattle.pack.specs.Kernels.{kernelOf, codeWord}
 use Rattle.kernel.specs.Thread.{started, movedTo, advanced}
-use Rattle.kernel.specs.Step.{stops, goesOn, ends, branched, stepOf}
+use Rattle.kernel.specs.Step.{stops, goesOn, endsThread, branched, stepOf}
 use Rattle.kernel.specs.Run.{ifRunning, stepMore, running, stepsOf, runOf}
 use Rattle.kernel.specs.Dispatch.{going, threadOf, threadMore, threadsOf, dispatchOf}
 use Rattle.kernel.proofs.StepByStep.{each-step-keeps}
@@ -26,7 +26,7 @@ Aligned t = t .place % 4 ≡ 0
 
 module _ (limit : ℕ) (pack : List ℕ) (kernel : Kernel) where
   step-aligned : (t : Thread) (window : List ℕ) → Aligned t → Aligned (stepOf limit pack kernel t window .stepped .thread)
-  unfolding goesOn ends stops advanced movedTo
+  unfolding goesOn endsThread stops advanced movedTo
   step-aligned t window aligned = step-cases limit pack kernel t window (λ s. Aligned (s .stepped .thread)) (record {
     next = λ h t′ place steps. omega arith;
     stored = λ h width a x. omega arith;

@@ -1,4 +1,3 @@
-pub mod Settled
 pub mod Runs
 pub mod Dispatches
 pub mod Steps
@@ -6,7 +5,6 @@ pub mod StepByStep
 pub mod StepLimit
 pub mod Stopping
 pub mod Windows
-pub mod Nested
 pub mod Threads
 pub mod KernelWords
 pub mod Examples

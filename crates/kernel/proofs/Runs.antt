@@ -6,7 +6,7 @@ use Prim.Native.Nat.{ℕ, _+_, _≤_}
 use native.Mathlib.Numerals.{add-one}
 use native.Mathlib.Omega.{arith}
 use Rattle.memory.specs.After.{after}
-use Rattle.kernel.proofs.Settled.{after-stays}
+use Rattle.memory.proofs.After.{after-stays}
 use Rattle.pack.specs.declared.kernels.Kernel.{Kernel}
 use Rattle.kernel.specs.declared.thread.Thread.{Thread}
 use Rattle.kernel.specs.declared.step.Stepped.{Stepped}
@@ -30,7 +30,7 @@ stopped-rests e x y = rw e
 -- what a running thread shows is a thread about to take its next step
 pub still-running : (s : State) (r : Stepped) (window : List ℕ) → Shows r window s → r .progress ≡ Running → s ≡ running (r .thread) window
 unfolding running
-still-running s r window h e = rw (← e, h .answer, h .memory)
+still-running s r window h e = rw (← e, h .answer, h .window)
 
 module _ (limit : ℕ) (pack : List ℕ) (kernel : Kernel) (t : Thread) (window : List ℕ) where
   -- no step leaves the thread about to take its first
@@ -64,4 +64,4 @@ module _ (limit : ℕ) (pack : List ℕ) (kernel : Kernel) (t : Thread) (window 
   pub run-runs-out : (n : ℕ) (t′ : Thread) (window′ : List ℕ) → n ≡ limit + 1 → stepsOf n limit pack kernel t window ≡ running t′ window′
       → Shows (record { thread = t′; progress = Running }) window′ (runOf limit pack kernel t window)
   unfolding runOf running
-  run-runs-out n t′ window′ same e = rw (← same, e) (record { answer = refl; memory = refl })
+  run-runs-out n t′ window′ same e = rw (← same, e) (record { answer = refl; window = refl })

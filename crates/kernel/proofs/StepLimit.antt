@@ -7,19 +7,19 @@ use Prim.Native.Nat.{ℕ, zero, suc, _+_, _≤_, _<_}
 use native.Mathlib.Omega.{arith}
 use Rattle.memory.specs.After.{after}
 use Rattle.instruction.specs.declared.list.Op.the-variants.{Wfi}
-use Rattle.instruction.specs.declared.effect.Stop.the-variants.{OutOfSteps}
 use Rattle.instruction.specs.Decode.{opOf, decoded}
 use Rattle.instruction.specs.Effect.{effectOf}
 use Rattle.pack.specs.declared.kernels.Kernel.{Kernel}
+use Rattle.kernel.specs.declared.step.Stop.the-variants.{OutOfSteps}
 use Rattle.kernel.specs.declared.thread.Thread.{Thread}
 use Rattle.kernel.specs.declared.step.Progress.{Progress}
 use Rattle.kernel.specs.declared.step.Progress.the-variants.{Running, Ended, Stopped}
 use Rattle.pack.specs.Kernels.{codeWord}
-use Rattle.kernel.specs.Step.{State, stops, ends, applied, executed, stepOf}
+use Rattle.kernel.specs.Step.{State, stops, stoppedAs, endsThread, applied, executed, stepOf}
 use Rattle.kernel.specs.Run.{ifRunning, stepMore, running, stepsOf, runOf}
 use Rattle.kernel.proofs.Runs.{one-step-more, run-rests, ended-rests, stopped-rests}
 use Rattle.kernel.proofs.StepByStep.{more-running, run-last-step}
-use Rattle.kernel.proofs.Steps.{Counted, stoppedAt, step-counts, at-the-limit, instruction-done}
+use Rattle.kernel.proofs.Steps.{Counted, step-counts, at-the-limit, instruction-done}
 
 -- a thread that is running after n steps took n, and no more than the limit; it is stopped with 14 only past the limit
 abbrev Took : ℕ → ℕ → Progress → ℕ → Type 0
@@ -35,11 +35,6 @@ counted-took : (limit n : ℕ) (p : Progress) (before now : ℕ) → before ≡ 
 counted-took limit n Running before now took below counted = omega arith
 counted-took limit n Ended before now took below counted = omega arith
 counted-took limit n (Stopped why) before now took below counted = (omega arith, λ e. omega (arith, counted .1 e))
-
-took-at-most : (limit n : ℕ) (p : Progress) (steps : ℕ) → Took limit n p steps → steps ≤ limit
-took-at-most limit n Running steps h = omega arith
-took-at-most limit n Ended steps h = h
-took-at-most limit n (Stopped why) steps h = h .0
 
 module _ (limit : ℕ) (pack : List ℕ) (kernel : Kernel) where
   more-took : (n : ℕ) (p : Progress) (t : Thread) (window : List ℕ) → Took limit n p (t .steps)
@@ -78,18 +73,13 @@ module _ (limit : ℕ) (pack : List ℕ) (kernel : Kernel) where
       unfolding runOf
       run-not-running e = omega (arith, (rw e at (state-took (limit + 1))) .1)
 
-      -- and took at most the limit's steps
-      pub run-took : end .stepped .thread .steps ≤ limit
-      unfolding runOf
-      run-took = took-at-most limit (limit + 1) (end .stepped .progress) (end .stepped .thread .steps) (state-took (limit + 1))
-
       -- no thread is stopped with 14 within the limit's steps
       pub not-before-the-limit : (n : ℕ) → n ≤ limit → state n .stepped .progress ≡ Stopped OutOfSteps → ⊥
       not-before-the-limit n h e = omega (arith, (rw e at (state-took n)) .1 refl)
 
       -- a thread still running after the limit's steps is stopped with 14, and all is as those steps left it
       pub running-at-the-limit : state limit .stepped .progress ≡ Running
-          → end ≡ stoppedAt OutOfSteps (state limit .stepped .thread) (state limit .window)
+          → end ≡ stoppedAs OutOfSteps (state limit .stepped .thread) (state limit .window)
       running-at-the-limit e =
           run-last-step limit pack kernel t window
           ∙ more-running limit pack kernel (state limit) e
@@ -113,11 +103,11 @@ module _ (limit : ℕ) (pack : List ℕ) (kernel : Kernel) where
       -- a WFI that is step number limit ends the thread, and 14 is not given
       pub wfi-at-the-limit : (n : ℕ) (t′ : Thread) (window′ : List ℕ) → n + 1 ≡ limit → state n ≡ running t′ window′
           → t′ .place < kernel .length → opOf (codeWord pack kernel (t′ .place)) ≡ Wfi
-          → end ≡ record { stepped = ends t′; window = window′ }
-      unfolding running executed decoded effectOf applied ends
+          → end ≡ record { stepped = endsThread t′; window = window′ }
+      unfolding running executed decoded effectOf applied endsThread
       wfi-at-the-limit n t′ window′ h e on wfi =
           let took : t′ .steps ≡ n = rw e at (running-took n (rw e)) in
           let here = one-step-more limit pack kernel t window n t′ window′ e in
           let wfi-done = instruction-done limit pack kernel t′ window′ (omega arith) on in
-          let done : state (n + 1) ≡ record { stepped = ends t′; window = window′ } = here ∙ wfi-done ∙ (rw wfi) in
+          let done : state (n + 1) ≡ record { stepped = endsThread t′; window = window′ } = here ∙ wfi-done ∙ (rw wfi) in
           ended-run (n + 1) (omega arith) (rw done) ∙ done

@@ -7,22 +7,19 @@ use Prim.Native.Nat.{ℕ, suc, _+_, _*_, _/_, _%_, _≤_, _<_}
 use native.Mathlib.Nat.{mul-add-div-right, mul-add-mod-self-right, div-eq-of-lt, mod-eq-of-lt, zero-div, zero-mod, add-zero}
 use native.Mathlib.Omega.{arith}
 use Rattle.memory.specs.After.{after}
-use Rattle.memory.proofs.After.{after-agree}
-use Rattle.instruction.specs.declared.effect.Stop.{Stop}
-use Rattle.instruction.specs.declared.effect.Stop.the-variants.{OutOfSteps}
+use Rattle.memory.proofs.After.{after-agree, after-stays, after-rows}
 use Rattle.pack.specs.declared.kernels.Kernel.{Kernel}
+use Rattle.kernel.specs.declared.step.Stop.{Stop}
+use Rattle.kernel.specs.declared.step.Stop.the-variants.{OutOfSteps}
 use Rattle.kernel.specs.declared.step.Progress.{Progress}
 use Rattle.kernel.specs.declared.step.Progress.the-variants.{Running, Ended, Stopped}
-use Rattle.kernel.specs.declared.dispatch.Ran.{Ran}
 use Rattle.kernel.specs.declared.dispatch.Ran.the-variants.{Done, Stopped as StoppedFor}
 use Rattle.pack.specs.Kernels.{kernelOf}
 use Rattle.kernel.specs.Thread.{started}
 use Rattle.kernel.specs.Step.{State}
 use Rattle.kernel.specs.Run.{stepsOf, runOf}
 use Rattle.kernel.specs.Dispatch.{Dispatched, ranOf, shown, ifDone, going, threadOf, threadMore, threadsOf, dispatchOf}
-use Rattle.kernel.proofs.Settled.{after-stays}
 use Rattle.kernel.proofs.Dispatches.{no-thread, one-thread-more}
-use Rattle.kernel.proofs.Nested.{after-rows}
 use Rattle.kernel.proofs.StepLimit.{run-not-running, out-of-steps}
 
 -- thread g · threads + j is thread j of group g
@@ -95,19 +92,6 @@ module _ (limit : ℕ) (pack : List ℕ) (kernel : Kernel) (groups threads : ℕ
     pub stop-ends : (n m : ℕ) (why : Stop) → n ≤ m → first n .ran ≡ StoppedFor why → first m ≡ first n
     unfolding threadsOf threadMore ifDone
     stop-ends n m why h e = after-stays (threadMore limit pack kernel groups threads) (going window) n m h (λ i. rw e)
-
-    -- where no thread stopped, each ran on the window that those before it left
-    pub each-ran : (n i : ℕ) → i < n → first n .ran ≡ Done → first (suc i) ≡ threadOf limit pack kernel groups threads i (first i .window)
-    unfolding threadMore ifDone
-    each-ran n i h e = one-more-thread i ∙ go (first i .ran) refl
-      where
-        go : (r : Ran) → first i .ran ≡ r
-            → threadMore limit pack kernel groups threads i (first i) ≡ threadOf limit pack kernel groups threads i (first i .window)
-        go Done now = rw now
-        go (StoppedFor why) now =
-            let same = stop-ends i n why (omega arith) now in
-            let z : _≡_ {A = ℕ} 0 1 = cc in
-            absurd (omega arith)
 
     by-groups : threadsOf (groups * threads) limit pack kernel groups threads window
         ≡ after (λ g. after (threadOfGroup g) threads) groups (going window)

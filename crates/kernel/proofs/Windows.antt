@@ -84,12 +84,5 @@ module _ (limit : ℕ) (pack : List ℕ) (window : List ℕ) where
   pub dispatch-length : (k groups threads : ℕ) → length (dispatchOf limit pack k groups threads window .window) ≡ length window
   dispatch-length k groups threads = dispatch-keeps _ (long (length window)) limit pack k groups threads window refl
 
-  -- bytes stay bytes
-  pub step-bytes : (kernel : Kernel) (t : Thread) → Bytes window → Bytes (stepOf limit pack kernel t window .window)
-  step-bytes kernel t h = step-keeps _ bytes limit pack kernel t window h
-
-  pub run-bytes : (kernel : Kernel) (t : Thread) → Bytes window → Bytes (runOf limit pack kernel t window .window)
-  run-bytes kernel t h = run-keeps _ bytes limit pack kernel t window h
-
   pub dispatch-bytes : (k groups threads : ℕ) → Bytes window → Bytes (dispatchOf limit pack k groups threads window .window)
   dispatch-bytes k groups threads h = dispatch-keeps _ bytes limit pack k groups threads window h

@@ -19,9 +19,9 @@ pub record Dispatched : Type 0 where
   pub window : List ℕ
 
 -- what a function returns and leaves in the window is this
-pub record ShowsRan (r : Ran) (window : List ℕ) (d : Dispatched) : Type 0 where
+pub record ShowsRan (r : Ran) (left : List ℕ) (d : Dispatched) : Type 0 where
   pub answer : r ≡ d .ran
-  pub memory : window ≡ d .window
+  pub window : left ≡ d .window
 
 -- what a thread's progress means for its dispatch
 unfoldable pub ranOf : Progress → Ran

@@ -11,14 +11,14 @@ use Rattle.memory.specs.Address.{reachOf, ifInside}
 use Rattle.memory.specs.Access.{bytesOf, storeOf}
 use Rattle.memory.specs.Quad.{storeQuadOf}
 use Rattle.instruction.specs.declared.list.Instr.{Instr}
-use Rattle.instruction.specs.declared.effect.Stop.{Stop}
-use Rattle.instruction.specs.declared.effect.Stop.the-variants.{OffTheKernel, OutsideTheWindow, OutOfSteps}
 use Rattle.instruction.specs.declared.effect.Effect.{Effect}
-use Rattle.instruction.specs.declared.effect.Effect.the-variants.{Put, PutQuad, Store, StoreQuad, Go, Next, End, Stop as StopFor}
+use Rattle.instruction.specs.declared.effect.Effect.the-variants.{Put, PutQuad, Store, StoreQuad, Go, Next, End, NotListed as Unlisted, Outside}
 use Rattle.instruction.specs.Decode.{decoded}
 use Rattle.instruction.specs.Effect.{effectOf}
 use Rattle.pack.specs.declared.kernels.Kernel.{Kernel}
 use Rattle.kernel.specs.declared.thread.Thread.{Thread}
+use Rattle.kernel.specs.declared.step.Stop.{Stop}
+use Rattle.kernel.specs.declared.step.Stop.the-variants.{NotListed, OffTheKernel, OutsideTheWindow, OutOfSteps}
 use Rattle.kernel.specs.declared.step.Stepped.{Stepped}
 use Rattle.kernel.specs.declared.step.Progress.the-variants.{Running, Ended, Stopped}
 use Rattle.pack.specs.Kernels.{codeWord}
@@ -31,21 +31,25 @@ pub record State : Type 0 where
   pub window : List ℕ
 
 -- what a function returns and leaves in the window is this state
-pub record Shows (r : Stepped) (window : List ℕ) (s : State) : Type 0 where
+pub record Shows (r : Stepped) (left : List ℕ) (s : State) : Type 0 where
   pub answer : r ≡ s .stepped
-  pub memory : window ≡ s .window
+  pub window : left ≡ s .window
 
 -- the thread stops and takes no step
 unfoldable pub stops : Stop → Thread → Stepped
 stops why t = record { thread = t; progress = Stopped why }
+
+-- the thread has stopped, and it and the window are as they were
+abbrev pub stoppedAs : Stop → Thread → List ℕ → State
+stoppedAs why t window = record { stepped = stops why t; window = window }
 
 -- the thread goes on to the next instruction
 unfoldable pub goesOn : Thread → Stepped
 goesOn t = record { thread = advanced t; progress = Running }
 
 -- WFI is a step and ends the thread
-unfoldable pub ends : Thread → Stepped
-ends t = record { thread = advanced t; progress = Ended }
+unfoldable pub endsThread : Thread → Stepped
+endsThread t = record { thread = advanced t; progress = Ended }
 
 -- a taken branch must land on a multiple of 4 inside the kernel; in a sound pack a place before its start wraps to one past its end
 unfoldable pub lands : ℕ → ℕ → Bool
@@ -75,8 +79,9 @@ applied length rd (StoreQuad a q) t window = record {
 }
 applied length rd (Go offset) t window = record { stepped = branched length offset t; window = window }
 applied length rd Next t window = record { stepped = goesOn t; window = window }
-applied length rd End t window = record { stepped = ends t; window = window }
-applied length rd (StopFor why) t window = record { stepped = stops why t; window = window }
+applied length rd End t window = record { stepped = endsThread t; window = window }
+applied length rd Unlisted t window = stoppedAs NotListed t window
+applied length rd Outside t window = stoppedAs OutsideTheWindow t window
 
 -- an instruction on the values of its operands
 unfoldable pub executed : ℕ → Instr → Thread → List ℕ → State
@@ -88,6 +93,6 @@ executed length i t window =
 -- one step under a limit
 unfoldable pub stepOf : ℕ → List ℕ → Kernel → Thread → List ℕ → State
 stepOf limit pack kernel t window =
-    cond (leb limit (t .steps)) (record { stepped = stops OutOfSteps t; window = window })
-    (cond (leb (kernel .length) (t .place)) (record { stepped = stops OffTheKernel t; window = window })
+    cond (leb limit (t .steps)) (stoppedAs OutOfSteps t window)
+    (cond (leb (kernel .length) (t .place)) (stoppedAs OffTheKernel t window)
     (executed (kernel .length) (decoded (codeWord pack kernel (t .place))) t window))

@@ -4,8 +4,8 @@ ghost use Prim.Native.Nat.{_*_, _^_, _<_};
 ghost use Rattle.kernel.specs.Dispatch.{ShowsRan, ranOf, threadOf, dispatchOf};
 use crate::run::run;
 use crate::step::Progress;
+use crate::step::Stop;
 use crate::thread::Thread;
-use instruction::effect::Stop;
 use pack::kernels::Kernel;
 use pack::kernels::kernel_at;
 

@@ -1,11 +1,10 @@
 // One step of a thread.
 ghost use mathlib.Core.Path.{_≡_};
 ghost use Prim.Native.Nat.{_+_, _^_, _<_};
-ghost use Rattle.kernel.specs.Step.{Shows, stops, goesOn, ends, branched, afterStore, applied, executed, stepOf};
+ghost use Rattle.kernel.specs.Step.{Shows, stops, goesOn, endsThread, branched, afterStore, applied, executed, stepOf};
 use crate::thread::Thread;
 use instruction::decode::decode;
 use instruction::effect::Effect;
-use instruction::effect::Stop;
 use instruction::effect::effect_of;
 use instruction::list::Instr;
 use memory::access::store;
@@ -15,6 +14,18 @@ use pack::kernels::Kernel;
 use pack::kernels::code_word;
 use words::arithmetic::add;
 use words::choice::both;
+
+// Why a thread stopped before its end.
+pub enum Stop {
+    // The word is not in the instruction list.
+    NotListed,
+    // A taken branch out of the kernel or off a multiple of 4, or running off its end.
+    OffTheKernel,
+    // A load or store not wholly in the window.
+    OutsideTheWindow,
+    // The thread already took the limit's steps.
+    OutOfSteps,
+}
 
 pub enum Progress {
     Running,
@@ -27,7 +38,7 @@ pub struct Stepped {
     pub progress: Progress,
 }
 
-fn stop(thread: Thread, why: Stop) -> Stepped
+fn stopped(thread: Thread, why: Stop) -> Stepped
     ensures { λ r. ⌜ r ≡ stops why thread ⌝ }
 {
     Stepped {
@@ -48,7 +59,7 @@ fn go_on(thread: Thread) -> Stepped
 
 fn end(thread: Thread) -> Stepped
     requires { ⌜ thread .steps + 1 < 2 ^ 32 ⌝ }
-    ensures { λ r. ⌜ r ≡ ends thread ⌝ }
+    ensures { λ r. ⌜ r ≡ endsThread thread ⌝ }
 {
     Stepped {
         thread: thread.advance(),
@@ -67,7 +78,7 @@ fn branch(thread: Thread, offset: u32, length: usize) -> Stepped
             progress: Progress::Running,
         }
     } else {
-        stop(thread, Stop::OffTheKernel)
+        stopped(thread, Stop::OffTheKernel)
     }
 }
 
@@ -77,7 +88,7 @@ fn after_store(thread: Thread, reach: Reach) -> Stepped
 {
     match reach {
         Reach::Inside => go_on(thread),
-        Reach::Outside => stop(thread, Stop::OutsideTheWindow),
+        Reach::Outside => stopped(thread, Stop::OutsideTheWindow),
     }
 }
 
@@ -93,7 +104,8 @@ fn apply(thread: Thread, rd: u32, effect: Effect, length: usize, window: &mut [u
         Effect::Go(offset) => branch(thread, offset, length),
         Effect::Next => go_on(thread),
         Effect::End => end(thread),
-        Effect::Stop(why) => stop(thread, why),
+        Effect::NotListed => stopped(thread, Stop::NotListed),
+        Effect::Outside => stopped(thread, Stop::OutsideTheWindow),
     }
 }
 
@@ -117,10 +129,10 @@ pub fn step(thread: Thread, pack: &[u8], kernel: Kernel, window: &mut [u8], limi
     ensures { λ r. ⌜ Shows r (now (window .exit)) (stepOf limit (now (pack .entry)) kernel thread (now (window .entry))) ⌝ }
 {
     if limit <= thread.steps {
-        return stop(thread, Stop::OutOfSteps);
+        return stopped(thread, Stop::OutOfSteps);
     }
     if kernel.length <= thread.place as usize {
-        return stop(thread, Stop::OffTheKernel);
+        return stopped(thread, Stop::OffTheKernel);
     }
     let instr = decode(code_word(pack, kernel, thread.place));
     execute(thread, instr, kernel.length, window)

@@ -1,10 +1,11 @@
--- Laws of `after`: no turn, one more turn, what each turn keeps, what one turn makes, and turns that agree.
+-- Laws of `after`: no turn, one more turn, what each turn keeps, what one turn makes, what no turn changes any more, turns in rows,
+-- and turns that agree.
 -- Assumes nothing.
-use mathlib.Core.Path.{_≡_, refl, subst}
-use Prim.Native.Nat.{ℕ, zero, suc, _+_, _<_}
-use native.Mathlib.Nat.{add-zero, add-suc}
+use mathlib.Core.Path.{_≡_, refl, subst, ap, _∙_}
+use Prim.Native.Nat.{ℕ, zero, suc, _+_, _*_, _≤_, _<_}
+use native.Mathlib.Nat.{add-zero, add-suc, zero-mul, suc-mul}
 use native.Mathlib.Numerals.{add-one}
-use native.Mathlib.Decide.{decLt}
+use native.Mathlib.Decide.{decLt, le-ind}
 use native.Mathlib.Omega.{arith}
 use Rattle.memory.specs.After.{after}
 
@@ -43,11 +44,23 @@ module _ {A : Type 0} (f : ℕ → A → A) where
           let last : j ≡ n = omega arith in
           subst (λ k. P (f k (after f k m))) last made
 
+  -- what no turn changes any more stays
+  pub after-stays : (m : A) (k n : ℕ) → k ≤ n → ((i : ℕ) → f i (after f k m) ≡ after f k m) → after f n m ≡ after f k m
+  unfolding after
+  after-stays m k n h stays = le-ind (λ (j : ℕ). after f j m ≡ after f k m) refl (λ j b e. ap (f j) e ∙ stays j) n h
+
 -- n + k turns are n turns and then k more
 pub after-split : {A : Type 0} (f : ℕ → A → A) (n k : ℕ) (m : A) → after f (n + k) m ≡ after (λ i. f (n + i)) k (after f n m)
 unfolding after
 after-split f n zero m = rw add-zero
 after-split f n (suc k) m = rw (add-suc, after-split f n k m)
+
+-- rows · width turns are width turns, rows times
+pub after-rows : {A : Type 0} (f : ℕ → A → A) (rows width : ℕ) (m : A)
+    → after f (rows * width) m ≡ after (λ r. after (λ i. f (r * width + i)) width) rows m
+unfolding after
+after-rows f zero width m = rw zero-mul
+after-rows f (suc rows) width m = rw (suc-mul rows width) (after-split f (rows * width) width m ∙ (rw (after-rows f rows width m)))
 
 -- two ways that agree below n, on whatever they meet, give the same
 pub after-agree : {A : Type 0} (f g : ℕ → A → A) (n : ℕ) (m : A) → ((i : ℕ) (x : A) → i < n → f i x ≡ g i x) → after f n m ≡ after g n m

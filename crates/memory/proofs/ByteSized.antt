@@ -9,10 +9,9 @@ use lib.ListN.{length, getD, set}
 use lib.Seq.{getD-set-same, getD-set-other, set-out}
 use Rattle.memory.specs.declared.access.Width.{Width}
 use Rattle.memory.specs.declared.quad.Quad.{Quad}
-use Rattle.memory.specs.Place.{withByte, withHalf, withWord}
-use Rattle.memory.specs.Access.{withValue, storeOf}
-use Rattle.memory.specs.Quad.{withQuad, storeQuadOf}
-use Rattle.memory.specs.Rectangle.{filledRow, filled}
+use Rattle.memory.specs.Access.{storeOf}
+use Rattle.memory.specs.Quad.{storeQuadOf}
+use Rattle.memory.specs.Rectangle.{filled}
 use Rattle.memory.specs.Copy.{copied, blitted}
 use Rattle.memory.specs.Transfer.{transferred}
 use Rattle.memory.proofs.Places.{Bytes}
@@ -31,29 +30,11 @@ keeps : (low high : ℕ) → kept.Keeps Bytes low high
 keeps low high j b x l u small h = set-bytes x j b small h
 
 module _ (m : List ℕ) (bytes : Bytes m) where
-  pub with-byte-bytes : (a v : ℕ) → Bytes (withByte m a v)
-  with-byte-bytes a v = kept.with-byte-keeps Bytes m a v (keeps _ _) bytes
-
-  pub with-half-bytes : (a v : ℕ) → Bytes (withHalf m a v)
-  with-half-bytes a v = kept.with-half-keeps Bytes m a v (keeps _ _) bytes
-
-  pub with-word-bytes : (a v : ℕ) → Bytes (withWord m a v)
-  with-word-bytes a v = kept.with-word-keeps Bytes m a v (keeps _ _) bytes
-
-  pub with-value-bytes : (width : Width) (a v : ℕ) → Bytes (withValue m width a v)
-  with-value-bytes width a v = kept.with-value-keeps Bytes m width a v (keeps _ _) bytes
-
   pub store-bytes : (width : Width) (a v : ℕ) → Bytes (storeOf m width a v)
   store-bytes width a v = kept.store-keeps Bytes m width a v (keeps _ _) bytes
 
-  pub with-quad-bytes : (a : ℕ) (q : Quad) → Bytes (withQuad m a q)
-  with-quad-bytes a q = kept.with-quad-keeps Bytes m a q (keeps _ _) bytes
-
   pub store-quad-bytes : (a : ℕ) (q : Quad) → Bytes (storeQuadOf m a q)
   store-quad-bytes a q = kept.store-quad-keeps Bytes m a q (keeps _ _) bytes
-
-  pub filled-row-bytes : (address width color : ℕ) → Bytes (filledRow address width color m)
-  filled-row-bytes address width color = kept.filled-row-keeps Bytes address width color m (keeps _ _) bytes
 
   pub filled-bytes : (address stride width height color : ℕ) → Bytes (filled address stride width height color m)
   filled-bytes address stride width height color = kept.filled-keeps Bytes address stride width height color m (λ y b. keeps _ _) bytes

@@ -52,7 +52,7 @@ module _ (P : List ℕ → Type 0) where
       (keeps a _ m (omega arith) (omega arith) (omega arith) h)))
 
   pub with-value-keeps : (m : List ℕ) (width : Width) (a v : ℕ) → Keeps P a (a + bytesOf width) → P m → P (withValue m width a v)
-  unfolding withValue bytesOf
+  unfolding withValue
   with-value-keeps m Byte a v keeps h = with-byte-keeps m a v keeps h
   with-value-keeps m Half a v keeps h = with-half-keeps m a v keeps h
   with-value-keeps m Word a v keeps h = with-word-keeps m a v keeps h

@@ -6,9 +6,8 @@ use Prim.Native.Nat.{ℕ}
 use lib.ListN.{length, length-set}
 use Rattle.memory.specs.declared.access.Width.{Width}
 use Rattle.memory.specs.declared.quad.Quad.{Quad}
-use Rattle.memory.specs.Place.{withByte, withHalf, withWord}
-use Rattle.memory.specs.Access.{withValue, storeOf}
-use Rattle.memory.specs.Quad.{withQuad, storeQuadOf}
+use Rattle.memory.specs.Access.{storeOf}
+use Rattle.memory.specs.Quad.{storeQuadOf}
 use Rattle.memory.specs.Rectangle.{filledRow, filled}
 use Rattle.memory.specs.Copy.{copied, blitted}
 use Rattle.memory.specs.Transfer.{transferred}
@@ -21,23 +20,8 @@ module _ (m : List ℕ) where
   keeps : (low high : ℕ) → kept.Keeps Long low high
   keeps low high j b x l u s h = length-set x j b ∙ h
 
-  pub with-byte-length : (a v : ℕ) → length (withByte m a v) ≡ length m
-  with-byte-length a v = kept.with-byte-keeps Long m a v (keeps _ _) refl
-
-  pub with-half-length : (a v : ℕ) → length (withHalf m a v) ≡ length m
-  with-half-length a v = kept.with-half-keeps Long m a v (keeps _ _) refl
-
-  pub with-word-length : (a v : ℕ) → length (withWord m a v) ≡ length m
-  with-word-length a v = kept.with-word-keeps Long m a v (keeps _ _) refl
-
-  pub with-value-length : (width : Width) (a v : ℕ) → length (withValue m width a v) ≡ length m
-  with-value-length width a v = kept.with-value-keeps Long m width a v (keeps _ _) refl
-
   pub store-length : (width : Width) (a v : ℕ) → length (storeOf m width a v) ≡ length m
   store-length width a v = kept.store-keeps Long m width a v (keeps _ _) refl
-
-  pub with-quad-length : (a : ℕ) (q : Quad) → length (withQuad m a q) ≡ length m
-  with-quad-length a q = kept.with-quad-keeps Long m a q (keeps _ _) refl
 
   pub store-quad-length : (a : ℕ) (q : Quad) → length (storeQuadOf m a q) ≡ length m
   store-quad-length a q = kept.store-quad-keeps Long m a q (keeps _ _) refl

@@ -11,4 +11,3 @@ pub mod Lengths
 pub mod ByteSized
 pub mod Others
 pub mod Pixels
-pub mod Accessed

@@ -9,10 +9,10 @@ use lib.ListN.{getD, set}
 use lib.Seq.{getD-set-other}
 use Rattle.memory.specs.declared.access.Width.{Width}
 use Rattle.memory.specs.declared.quad.Quad.{Quad}
-use Rattle.memory.specs.Place.{wordAt, withByte, withHalf, withWord}
+use Rattle.memory.specs.Place.{wordAt}
 use Rattle.memory.specs.Access.{bytesOf, storeOf}
 use Rattle.memory.specs.Quad.{storeQuadOf}
-use Rattle.memory.specs.Rectangle.{filledRow, filled}
+use Rattle.memory.specs.Rectangle.{filled}
 use Rattle.memory.specs.Copy.{copied, blitted}
 use Rattle.memory.specs.Transfer.{transferred}
 use Rattle.memory.proofs.Kept as kept
@@ -32,23 +32,11 @@ module _ (m : List ℕ) (i : ℕ) where
   pub keeps-other : (low high : ℕ) → Apart i low high → kept.Keeps Same low high
   keeps-other low high apart j b x l u s h = getD-set-other x j i b 0 (apart-ne i low high j apart l u) ∙ h
 
-  pub with-byte-other : (a v : ℕ) → Apart i a (a + 1) → Same (withByte m a v)
-  with-byte-other a v apart = kept.with-byte-keeps Same m a v (keeps-other _ _ apart) refl
-
-  pub with-half-other : (a v : ℕ) → Apart i a (a + 2) → Same (withHalf m a v)
-  with-half-other a v apart = kept.with-half-keeps Same m a v (keeps-other _ _ apart) refl
-
-  pub with-word-other : (a v : ℕ) → Apart i a (a + 4) → Same (withWord m a v)
-  with-word-other a v apart = kept.with-word-keeps Same m a v (keeps-other _ _ apart) refl
-
   pub store-other : (width : Width) (a v : ℕ) → Apart i a (a + bytesOf width) → Same (storeOf m width a v)
   store-other width a v apart = kept.store-keeps Same m width a v (keeps-other _ _ apart) refl
 
   pub store-quad-other : (a : ℕ) (q : Quad) → Apart i a (a + 16) → Same (storeQuadOf m a q)
   store-quad-other a q apart = kept.store-quad-keeps Same m a q (keeps-other _ _ apart) refl
-
-  pub filled-row-other : (address width color : ℕ) → Apart i address (address + 4 * width) → Same (filledRow address width color m)
-  filled-row-other address width color apart = kept.filled-row-keeps Same address width color m (keeps-other _ _ apart) refl
 
   pub filled-other : (address stride width height color : ℕ)
       → ((y : ℕ) → y < height → Apart i (address + y * stride) (address + y * stride + 4 * width)) → Same (filled address stride width height color m)

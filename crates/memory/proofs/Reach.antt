@@ -34,6 +34,3 @@ module _ (length address count : ℕ) where
 
   pub inside-reach : reachOf length address count ≡ Inside → address + count ≤ length
   inside-reach e = ⊎-elim (λ h. h .0) (λ h. let z : _≡_ {A = ℕ} 0 1 = cc in omega arith) reach-cases
-
-  pub outside-reach : reachOf length address count ≡ Outside → length < address + count
-  outside-reach e = ⊎-elim (λ h. let z : _≡_ {A = ℕ} 0 1 = cc in omega arith) (λ h. h .0) reach-cases

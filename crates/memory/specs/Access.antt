@@ -11,7 +11,7 @@ use Rattle.memory.specs.Address.{reachOf, ifInside}
 use Rattle.memory.specs.Place.{halfAt, wordAt, withByte, withHalf, withWord}
 
 -- how many bytes a width has
-unfoldable pub bytesOf : Width → ℕ
+abbrev pub bytesOf : Width → ℕ
 bytesOf Byte = 1
 bytesOf Half = 2
 bytesOf Word = 4

@@ -1,34 +1,25 @@
 -- What differences, magnitudes and extended numbers are.
 -- Assumes nothing.
-use mathlib.Core.Path.{_≡_, refl, sym, ap, _∙_}
+use mathlib.Core.Path.{_≡_, refl, ap, _∙_}
 use mathlib.Core.Logic.{_⊎_, inl, inr}
 use Prim.Native.Nat.{ℕ, suc, _+_, _-_, _*_, _%_, _^_, _≤_, _<_}
-use native.Mathlib.Nat.{mod-add-mod, add-mod-right, mod-eq-of-lt, add-mul-mod-self-right, sub-add-cancel, pow-succ'}
+use native.Mathlib.Nat.{mod-add-mod, add-mod-right, mod-eq-of-lt, pow-succ'}
 use native.Mathlib.Omega.{arith}
 use lib.IntN.{pos, negsuc, natAbs}
-use lib.Pow.{pow-mono, high-ones}
+use lib.Pow.{pow-mono}
 use borrow.Author.Tests.{lt-ltb, le-ltb}
 use Rattle.words.specs.Signed.{signedOf, extended}
 use Rattle.words.specs.Arithmetic.{difference, magnitude}
 use Rattle.words.proofs.SignedOrder.{signed-small, signed-large}
 use Rattle.words.proofs.Order.{lt-or-ge}
 
--- the difference is the number that b added to gives a back, modulo 2 ^ k, and no other of k bits is
-module _ (k a b : ℕ) (hb : b ≤ 2 ^ k) where
-  pub difference-back : a < 2 ^ k → (difference k a b + b) % 2 ^ k ≡ a
-  difference-back ha =
-      mod-add-mod (a + (2 ^ k - b)) (2 ^ k) b
-      ∙ ap (λ (x : ℕ). x % 2 ^ k) (omega arith)
-      ∙ add-mod-right a (2 ^ k)
-      ∙ mod-eq-of-lt ha
-
-  pub difference-only : (r : ℕ) → r < 2 ^ k → (r + b) % 2 ^ k ≡ a → r ≡ difference k a b
-  difference-only r hr e =
-      sym (mod-eq-of-lt hr)
-      ∙ sym (add-mod-right r (2 ^ k))
-      ∙ ap (λ (x : ℕ). x % 2 ^ k) (omega arith)
-      ∙ sym (mod-add-mod (r + b) (2 ^ k) (2 ^ k - b))
-      ∙ ap (λ (x : ℕ). (x + (2 ^ k - b)) % 2 ^ k) e
+-- the difference is a number that b added to gives a back, modulo 2 ^ k
+pub difference-back : (k a b : ℕ) → b ≤ 2 ^ k → a < 2 ^ k → (difference k a b + b) % 2 ^ k ≡ a
+difference-back k a b hb ha =
+    mod-add-mod (a + (2 ^ k - b)) (2 ^ k) b
+    ∙ ap (λ (x : ℕ). x % 2 ^ k) (omega arith)
+    ∙ add-mod-right a (2 ^ k)
+    ∙ mod-eq-of-lt ha
 
 -- the magnitude is the signed number without its sign; of the least number it is that word itself
 pub magnitude-abs : (a : ℕ) → a < 2 ^ 32 → magnitude a ≡ natAbs (signedOf a)
@@ -43,18 +34,7 @@ pub magnitude-least : magnitude (2 ^ 31) ≡ 2 ^ 31
 unfolding magnitude
 magnitude-least = refl
 
--- an extended number keeps its k bits and its signed value
-pub extended-low : (k x : ℕ) → k ≤ 32 → x < 2 ^ k → extended k x % 2 ^ k ≡ x
-extended-low k x hk h = go (lt-or-ge x (2 ^ (k - 1)))
-  where
-    ones : 2 ^ 32 - 2 ^ k ≡ (2 ^ (32 - k) - 1) * 2 ^ k
-    ones = ap (λ (n : ℕ). 2 ^ n - 2 ^ k) (sym (sub-add-cancel hk)) ∙ high-ones (32 - k) k
-
-    go : (x < 2 ^ (k - 1)) ⊎ (2 ^ (k - 1) ≤ x) → extended k x % 2 ^ k ≡ x
-    go (inl p) = rw (lt-ltb x (2 ^ (k - 1)) p) (mod-eq-of-lt h)
-    go (inr p) =
-        rw (le-ltb x (2 ^ (k - 1)) p, ones) (add-mul-mod-self-right x (2 ^ (32 - k) - 1) (2 ^ k) ∙ mod-eq-of-lt h)
-
+-- an extended number keeps its signed value
 pub extended-small : (k x : ℕ) → k ≤ 32 → x < 2 ^ (k - 1) → signedOf (extended k x) ≡ pos x
 extended-small k x hk p =
     let half : 2 ^ (k - 1) ≤ 2 ^ 31 = pow-mono {j = 31} (omega arith) in

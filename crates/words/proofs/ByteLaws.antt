@@ -1,11 +1,10 @@
--- A word is the word of its bytes and of its halves, and these are those it was made of.
+-- A word is the word of its bytes, and these are those it was made of.
 -- Assumes nothing.
 use mathlib.Core.Path.{_≡_, sym, _∙_}
 use Prim.Native.Nat.{ℕ, _+_, _*_, _%_, _^_, _<_}
 use native.Mathlib.Nat.{div-one, mod-eq-of-lt}
 use native.Mathlib.Omega.{arith}
-use Rattle.words.specs.Bytes.{halfOf, wordOf, byteOf}
-use Rattle.words.specs.Halves.{wordOfHalves, wordHalf}
+use Rattle.words.specs.Bytes.{wordOf, byteOf}
 use Rattle.words.proofs.LaneLaws.{one-lane-more}
 
 pub word-of-its-bytes : (w : ℕ) → w < 2 ^ 32 → wordOf (byteOf 0 w) (byteOf 1 w) (byteOf 2 w) (byteOf 3 w) ≡ w
@@ -16,16 +15,7 @@ word-of-its-bytes w h =
     added : (w b0 b1 b2 b3 m n : ℕ) → w ≡ b3 * 2 ^ 24 + n → n ≡ b2 * 2 ^ 16 + m → m ≡ b1 * 2 ^ 8 + b0 → wordOf b0 b1 b2 b3 ≡ w
     added w b0 b1 b2 b3 m n p q r = omega arith
 
-pub word-of-its-halves : (w : ℕ) → w < 2 ^ 32 → wordOfHalves (wordHalf 0 w) (wordHalf 1 w) ≡ w
-word-of-its-halves w h = omega (arith, one-lane-more 16 1 w)
-
-pub half-of-its-bytes : (w : ℕ) → w < 2 ^ 16 → halfOf (byteOf 0 w) (byteOf 1 w) ≡ w
-half-of-its-bytes w h = omega (arith, one-lane-more 8 1 w)
-
 module _ {b0 b1 b2 b3 : ℕ} (h0 : b0 < 2 ^ 8) (h1 : b1 < 2 ^ 8) (h2 : b2 < 2 ^ 8) (h3 : b3 < 2 ^ 8) where
-  pub word-below : wordOf b0 b1 b2 b3 < 2 ^ 32
-  word-below = omega arith
-
   pub byte-0-of-word : byteOf 0 (wordOf b0 b1 b2 b3) ≡ b0
   byte-0-of-word = omega arith
 
@@ -37,23 +27,3 @@ module _ {b0 b1 b2 b3 : ℕ} (h0 : b0 < 2 ^ 8) (h1 : b1 < 2 ^ 8) (h2 : b2 < 2 ^ 
 
   pub byte-3-of-word : byteOf 3 (wordOf b0 b1 b2 b3) ≡ b3
   byte-3-of-word = omega arith
-
-module _ {b0 b1 : ℕ} (h0 : b0 < 2 ^ 8) (h1 : b1 < 2 ^ 8) where
-  pub half-below : halfOf b0 b1 < 2 ^ 16
-  half-below = omega arith
-
-  pub byte-0-of-half : byteOf 0 (halfOf b0 b1) ≡ b0
-  byte-0-of-half = omega arith
-
-  pub byte-1-of-half : byteOf 1 (halfOf b0 b1) ≡ b1
-  byte-1-of-half = omega arith
-
-module _ {l0 l1 : ℕ} (h0 : l0 < 2 ^ 16) (h1 : l1 < 2 ^ 16) where
-  pub word-of-halves-below : wordOfHalves l0 l1 < 2 ^ 32
-  word-of-halves-below = omega arith
-
-  pub half-0-of-word : wordHalf 0 (wordOfHalves l0 l1) ≡ l0
-  half-0-of-word = omega arith
-
-  pub half-1-of-word : wordHalf 1 (wordOfHalves l0 l1) ≡ l1
-  half-1-of-word = omega arith

@@ -88,34 +88,20 @@ module _ (k x : ℕ) (p : 0 < x) (h : x < 2 ^ k) where
   pub low-clear : (i : ℕ) → i < firstSet (λ i. bit i x) k → bit i x ≡ 0
   low-clear i l = first (λ i. bit i x) k .clear i l
 
--- CLZ and CTZ give at most 32, and 32 of 0
+-- CLZ and CTZ give at most 32
 pub clz-le : (x : ℕ) → clzOf x ≤ 32
 clz-le x = first (λ i. bit (31 - i) x) 32 .within
 
 pub ctz-le : (x : ℕ) → ctzOf x ≤ 32
 ctz-le x = first (λ i. bit i x) 32 .within
 
-pub clz-zero : clzOf 0 ≡ 32
-unfolding firstSet
-clz-zero = refl
-
-pub ctz-zero : ctzOf 0 ≡ 32
-unfolding firstSet
-ctz-zero = refl
-
--- of any other word they are below 32, and mark its highest and its lowest set bit
+-- of a word that is not 0 they mark its highest and its lowest set bit
 module _ (x : ℕ) (p : 0 < x) (h : x < 2 ^ 32) where
-  pub clz-within : clzOf x < 32
-  clz-within = top-within 31 x p h
-
   pub clz-set : bit (31 - clzOf x) x ≡ 1
   clz-set = top-set 31 x p h
 
   pub clz-clear : (i : ℕ) → 31 - clzOf x < i → i ≤ 31 → bit i x ≡ 0
   clz-clear = top-clear 31 x p h
-
-  pub ctz-within : ctzOf x < 32
-  ctz-within = low-within 32 x p h
 
   pub ctz-set : bit (ctzOf x) x ≡ 1
   ctz-set = low-set 32 x p h

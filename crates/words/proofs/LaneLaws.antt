@@ -79,12 +79,6 @@ module _ (f : ℕ → ℕ → ℕ) (k : ℕ) (fits : (x y : ℕ) → x < 2 ^ k �
       → lane k i (lanewise f k n a b) ≡ lane k i (lanewise f k n a′ b′)
   lanewise-apart n a b a′ b′ i h p q = lanewise-lane n a b i h ∙ ap₂ f p q ∙ sym (lanewise-lane n a′ b′ i h)
 
-  -- and a number of n lanes with those lanes is the result
-  pub lanewise-only : (n a b r : ℕ) → r < 2 ^ (k * n) → ((i : ℕ) → i < n → lane k i r ≡ f (lane k i a) (lane k i b)) → r ≡ lanewise f k n a b
-  lanewise-only n a b r hr h =
-      sym (mod-eq-of-lt hr) ∙ same-lanes k n r (lanewise f k n a b) (λ i l. h i l ∙ sym (lanewise-lane n a b i l))
-      ∙ mod-eq-of-lt (lanewise-below n a b)
-
 -- an operation that works on each run of bits apart works on the whole word at once, whatever the lanes' width
 module _ (op : ℕ → ℕ → ℕ) (none : op 0 0 ≡ 0)
     (block : (k a b r s : ℕ) → r < 2 ^ k → s < 2 ^ k → op (a * 2 ^ k + r) (b * 2 ^ k + s) ≡ op a b * 2 ^ k + op r s) where

@@ -7,12 +7,12 @@ use native.Mathlib.Omega.{arith}
 use lib.Bits.{bitXor, bitAnd, bitOr, xor-lt, and-lt, or-lt}
 use Rattle.words.specs.Bytes.{wordOf, byteOf}
 use Rattle.words.specs.Halves.{wordOfHalves, wordHalf}
-use Rattle.words.specs.Lanes.{lane, lanewise, laneBits, laneCount, laneOf, lanesOf}
+use Rattle.words.specs.Lanes.{lanewise, laneBits, laneCount, laneOf, lanesOf}
 use Rattle.words.specs.declared.lanes.LaneOp.{LaneOp}
 use Rattle.words.specs.declared.lanes.LaneOp.the-variants.{Add, Sub, Xor, And, Or, Mul}
 use Rattle.words.specs.declared.lanes.LaneType.{LaneType}
 use Rattle.words.specs.declared.lanes.LaneType.the-variants.{I32, I16, I8}
-use Rattle.words.proofs.LaneLaws.{lanewise-below, lanewise-lane, lanewise-apart, lanewise-only, lanewise-xor, lanewise-and, lanewise-or}
+use Rattle.words.proofs.LaneLaws.{lanewise-below, lanewise-xor, lanewise-and, lanewise-or}
 use Rattle.words.proofs.WordLaws.{sum-below, difference-below, product-below}
 
 -- the lanes fill the word
@@ -37,27 +37,6 @@ module _ (op : LaneOp) (ty : LaneType) where
   lanesOf-below a b =
       subst (λ (x : ℕ). lanesOf op ty a b < 2 ^ x) (lanes-fill ty)
       (lanewise-below (laneOf op ty) (laneBits ty) (laneOf-below op ty) (laneCount ty) a b)
-
-  -- lane i of the result is the operation on lane i of a and lane i of b
-  pub lanesOf-lane : (a b i : ℕ) → i < laneCount ty
-      → lane (laneBits ty) i (lanesOf op ty a b) ≡ laneOf op ty (lane (laneBits ty) i a) (lane (laneBits ty) i b)
-  unfolding lanesOf
-  lanesOf-lane = lanewise-lane (laneOf op ty) (laneBits ty) (laneOf-below op ty) (laneCount ty)
-
-  -- and depends on no other lane
-  pub lanesOf-apart : (a b a′ b′ i : ℕ) → i < laneCount ty
-      → lane (laneBits ty) i a ≡ lane (laneBits ty) i a′ → lane (laneBits ty) i b ≡ lane (laneBits ty) i b′
-      → lane (laneBits ty) i (lanesOf op ty a b) ≡ lane (laneBits ty) i (lanesOf op ty a′ b′)
-  unfolding lanesOf
-  lanesOf-apart = lanewise-apart (laneOf op ty) (laneBits ty) (laneOf-below op ty) (laneCount ty)
-
-  -- no other word has those lanes
-  pub lanesOf-only : (a b r : ℕ) → r < 2 ^ 32
-      → ((i : ℕ) → i < laneCount ty → lane (laneBits ty) i r ≡ laneOf op ty (lane (laneBits ty) i a) (lane (laneBits ty) i b))
-      → r ≡ lanesOf op ty a b
-  unfolding lanesOf
-  lanesOf-only a b r h =
-      lanewise-only (laneOf op ty) (laneBits ty) (laneOf-below op ty) (laneCount ty) a b r (rw (lanes-fill ty) h)
 
 -- a bitwise operation is that operation on the whole word
 module _ (ty : LaneType) (a b : ℕ) (ha : a < 2 ^ 32) (hb : b < 2 ^ 32) where

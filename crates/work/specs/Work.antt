@@ -6,7 +6,7 @@ use lib.Dec.{eqb}
 use Rattle.memory.specs.Rectangle.{filled}
 use Rattle.memory.specs.Copy.{copied, blitted}
 use Rattle.memory.specs.Transfer.{transferred}
-use Rattle.instruction.specs.declared.effect.Stop.the-variants.{NotListed as Unlisted, OffTheKernel as OffIt, OutsideTheWindow as OffTheWindow, OutOfSteps as NoStepsLeft}
+use Rattle.kernel.specs.declared.step.Stop.the-variants.{NotListed as Unlisted, OffTheKernel as OffIt, OutsideTheWindow as OffTheWindow, OutOfSteps as NoStepsLeft}
 use Rattle.kernel.specs.declared.dispatch.Ran.{Ran}
 use Rattle.kernel.specs.declared.dispatch.Ran.the-variants.{Done as RanToItsEnd, Stopped}
 use Rattle.kernel.specs.Dispatch.{Dispatched, dispatchOf}
@@ -28,10 +28,10 @@ pub record Left : Type 0 where
   pub pipe : List ℕ
 
 -- what a function returns and leaves in the window and the pipe is this
-pub record Shows (r : Performed) (window pipe : List ℕ) (l : Left) : Type 0 where
+pub record Shows (r : Performed) (w p : List ℕ) (l : Left) : Type 0 where
   pub answer : r ≡ l .performed
-  pub memory : window ≡ l .window
-  pub words : pipe ≡ l .pipe
+  pub window : w ≡ l .window
+  pub pipe : p ≡ l .pipe
 
 -- this outcome, with this frame, window and pipe after it
 unfoldable pub leaves : Outcome → Frame → List ℕ → List ℕ → Left

@@ -69,7 +69,7 @@ returns-2 : tie.Need-returns-2 Inv-loop μ-loop
 unfolding dispatchOf
 returns-2 c =
     let all = le-antisymm (c .before .loop .inv .0) (c .loop-test .left) in
-    rw (← c .before .before .kernel-at .ensures, ← all, c .before .loop .inv .2) (record { answer = refl; memory = refl })
+    rw (← c .before .before .kernel-at .ensures, ← all, c .before .loop .inv .2) (record { answer = refl; window = refl })
 
 pub dispatch-spec : {M : Type 1} → statement M
 dispatch-spec =

@@ -33,7 +33,7 @@ same-length c = search needs
 
 returns : tie.Need-returns
 unfolding threadOf shown
-returns c = rw (← c .before .before .before .before .before .start .ensures) (record { answer = rw (c .ran-of .ensures, c .before .before .before .run .ensures .answer); memory = c .before .before .before .run .ensures .memory })
+returns c = rw (← c .before .before .before .before .before .start .ensures) (record { answer = rw (c .ran-of .ensures, c .before .before .before .run .ensures .answer); window = c .before .before .before .run .ensures .window })
 
 pub run-thread-spec : {M : Type 1} → statement M
 run-thread-spec =

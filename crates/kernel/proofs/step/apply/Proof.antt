@@ -63,49 +63,59 @@ enum-told-2 c = search needs
 end-requires : tie.Need-end-requires
 end-requires c κs = search needs
 
-enum-known-effect-6 : tie.Need-enum-known-effect-6
-enum-known-effect-6 c = search needs
+enum-told-3 : tie.Need-enum-told-3
+enum-told-3 c = search needs
 
-stop-requires : tie.Need-stop-requires
-stop-requires c κs = search needs
+stopped-requires : tie.Need-stopped-requires
+stopped-requires c κs = search needs
+
+enum-told-4 : tie.Need-enum-told-4
+enum-told-4 c = search needs
+
+stopped-requires-2 : tie.Need-stopped-requires-2
+stopped-requires-2 c κs = search needs
 
 returns : tie.Need-returns
 unfolding applied
-returns c = rw (c .before .before .before .effect .given .1) (record { answer = rw (c .go-on .ensures, c .before .write .ensures, mod-eq-of-lt (c .before .before .before .before .before .before .pre .1)); memory = refl })
+returns c = rw (c .before .before .before .effect .given .1) (record { answer = rw (c .go-on .ensures, c .before .write .ensures, mod-eq-of-lt (c .before .before .before .before .before .before .pre .1)); window = refl })
 
 returns-2 : tie.Need-returns-2
 unfolding applied
-returns-2 c = rw (c .before .before .before .effect2 .given .1) (record { answer = rw (c .go-on2 .ensures, c .before .write-vector .ensures); memory = refl })
+returns-2 c = rw (c .before .before .before .effect2 .given .1) (record { answer = rw (c .go-on2 .ensures, c .before .write-vector .ensures); window = refl })
 
 same-length : tie.Need-same-length
 same-length c = search needs
 
 returns-3 : tie.Need-returns-3
 unfolding applied
-returns-3 c = rw (c .before .before .before .before .before .before .effect3 .given .1) (record { answer = rw (c .after-store .ensures, c .before .before .before .store .ensures .0); memory = c .before .before .before .store .ensures .1 })
+returns-3 c = rw (c .before .before .before .before .before .before .effect3 .given .1) (record { answer = rw (c .after-store .ensures, c .before .before .before .store .ensures .0); window = c .before .before .before .store .ensures .1 })
 
 same-length-2 : tie.Need-same-length-2
 same-length-2 c = search needs
 
 returns-4 : tie.Need-returns-4
 unfolding applied
-returns-4 c = rw (c .before .before .before .before .before .before .effect4 .given .1) (record { answer = rw (c .after-store2 .ensures, c .before .before .before .store-quad .ensures .0); memory = c .before .before .before .store-quad .ensures .1 })
+returns-4 c = rw (c .before .before .before .before .before .before .effect4 .given .1) (record { answer = rw (c .after-store2 .ensures, c .before .before .before .store-quad .ensures .0); window = c .before .before .before .store-quad .ensures .1 })
 
 returns-5 : tie.Need-returns-5
 unfolding applied
-returns-5 c = rw (c .before .before .effect5 .given .1) (record { answer = c .branch .ensures; memory = refl })
+returns-5 c = rw (c .before .before .effect5 .given .1) (record { answer = c .branch .ensures; window = refl })
 
 returns-6 : tie.Need-returns-6
 unfolding applied
-returns-6 c = rw (c .before .enum-told .given .1) (record { answer = c .go-on3 .ensures; memory = refl })
+returns-6 c = rw (c .before .enum-told .given .1) (record { answer = c .go-on3 .ensures; window = refl })
 
 returns-7 : tie.Need-returns-7
 unfolding applied
-returns-7 c = rw (c .before .enum-told2 .given .1) (record { answer = c .end .ensures; memory = refl })
+returns-7 c = rw (c .before .enum-told2 .given .1) (record { answer = c .end .ensures; window = refl })
 
 returns-8 : tie.Need-returns-8
 unfolding applied
-returns-8 c = rw (c .before .before .effect6 .given .1) (record { answer = c .stop .ensures; memory = refl })
+returns-8 c = rw (c .before .enum-told3 .given .1) (record { answer = c .stopped .ensures; window = refl })
+
+returns-9 : tie.Need-returns-9
+unfolding applied
+returns-9 c = rw (c .before .enum-told4 .given .1) (record { answer = c .stopped2 .ensures; window = refl })
 
 pub apply-spec : {M : Type 1} → statement M
 apply-spec =
@@ -129,8 +139,10 @@ apply-spec =
     go-on-requires-3
     enum-told-2
     end-requires
-    enum-known-effect-6
-    stop-requires
+    enum-told-3
+    stopped-requires
+    enum-told-4
+    stopped-requires-2
     returns
     returns-2
     same-length
@@ -140,4 +152,5 @@ apply-spec =
     returns-5
     returns-6
     returns-7
-    returns-8)
+    returns-8
+    returns-9)

@@ -16,8 +16,8 @@ both-requires c κs = search needs
 move-to-requires : tie.Need-move-to-requires
 move-to-requires c κs = search needs
 
-stop-requires : tie.Need-stop-requires
-stop-requires c κs = search needs
+stopped-requires : tie.Need-stopped-requires
+stopped-requires c κs = search needs
 
 returns : tie.Need-returns
 unfolding branched lands
@@ -25,7 +25,7 @@ returns c = rw (← c .before .before .before .add .ensures, ← c .before .befo
 
 returns-2 : tie.Need-returns-2
 unfolding branched lands
-returns-2 c = rw (← c .before .before .before .add .ensures, ← c .before .before .both .ensures, c .before .if1 .left) (c .stop .ensures)
+returns-2 c = rw (← c .before .before .before .add .ensures, ← c .before .before .both .ensures, c .before .if1 .left) (c .stopped .ensures)
 
 pub branch-spec : {M : Type 1} → statement M
 branch-spec =
@@ -35,6 +35,6 @@ branch-spec =
     cast-both
     both-requires
     move-to-requires
-    stop-requires
+    stopped-requires
     returns
     returns-2)

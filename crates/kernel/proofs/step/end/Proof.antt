@@ -1,5 +1,5 @@
 -- `kernel::step::end` meets its contract. Assumes nothing.
-use Rattle.kernel.specs.Step.{ends}
+use Rattle.kernel.specs.Step.{endsThread}
 use borrow.Author.Needs.{needs}
 use Rattle.kernel.proofs.step.end.Statement.{statement}
 use Rattle.kernel.proofs.step.end.Tie as tie
@@ -8,7 +8,7 @@ advance-requires : tie.Need-advance-requires
 advance-requires c κs = search needs
 
 returns : tie.Need-returns
-unfolding ends
+unfolding endsThread
 returns c = cc
 
 pub end-spec : {M : Type 1} → statement M

@@ -10,22 +10,22 @@ use borrow.Author.Needs.{needs}
 use Rattle.kernel.proofs.step.step.Statement.{statement}
 use Rattle.kernel.proofs.step.step.Tie as tie
 
-stop-requires : tie.Need-stop-requires
-stop-requires c κs = search needs
+stopped-requires : tie.Need-stopped-requires
+stopped-requires c κs = search needs
 
 returns : tie.Need-returns
 unfolding stepOf
-returns c = rw (le-leb _ _ (c .before .if1 .taken)) (record { answer = c .stop .ensures; memory = refl })
+returns c = rw (le-leb _ _ (c .before .if1 .taken)) (record { answer = c .stopped .ensures; window = refl })
 
 cast-if2 : tie.Need-cast-if2
 cast-if2 c = search needs
 
-stop-requires-2 : tie.Need-stop-requires-2
-stop-requires-2 c κs = search needs
+stopped-requires-2 : tie.Need-stopped-requires-2
+stopped-requires-2 c κs = search needs
 
 returns-2 : tie.Need-returns-2
 unfolding stepOf
-returns-2 c = simp (lt-leb _ _ (c .before .before .before .before .if1 .left), le-leb _ _ (c .before .if2 .taken)) (record { answer = c .stop2 .ensures; memory = refl })
+returns-2 c = simp (lt-leb _ _ (c .before .before .before .before .if1 .left), le-leb _ _ (c .before .if2 .taken)) (record { answer = c .stopped2 .ensures; window = refl })
 
 code-word-requires : tie.Need-code-word-requires
 code-word-requires c κs = search needs
@@ -48,10 +48,10 @@ pub step-spec : {M : Type 1} → statement M
 step-spec =
     tie.close
     (tie.spec
-    stop-requires
+    stopped-requires
     returns
     cast-if2
-    stop-requires-2
+    stopped-requires-2
     returns-2
     code-word-requires
     decode-requires

@@ -10,21 +10,18 @@ enum-told : tie.Need-enum-told
 enum-told c = search needs
 
 put-byte-requires : tie.Need-put-byte-requires
-unfolding bytesOf
 put-byte-requires c κs = omega (arith, ap bytesOf (c .before .enum-told .given .1))
 
 enum-told-2 : tie.Need-enum-told-2
 enum-told-2 c = search needs
 
 put-half-requires : tie.Need-put-half-requires
-unfolding bytesOf
 put-half-requires c κs = omega (arith, ap bytesOf (c .before .enum-told2 .given .1))
 
 enum-told-3 : tie.Need-enum-told-3
 enum-told-3 c = search needs
 
 put-word-requires : tie.Need-put-word-requires
-unfolding bytesOf
 put-word-requires c κs = omega (arith, ap bytesOf (c .before .enum-told3 .given .1))
 
 same-length : tie.Need-same-length

@@ -12,7 +12,6 @@ enum-told : tie.Need-enum-told
 enum-told c = search needs
 
 shared-slice-read-extend : tie.Need-shared-slice-read-extend
-unfolding bytesOf
 shared-slice-read-extend c = omega (arith, ap bytesOf (c .before .enum-told .given .1))
 
 cast-extend : tie.Need-cast-extend
@@ -25,7 +24,6 @@ enum-told-2 : tie.Need-enum-told-2
 enum-told-2 c = search needs
 
 half-at-requires : tie.Need-half-at-requires
-unfolding bytesOf
 half-at-requires c κs = omega (arith, ap bytesOf (c .enum-told2 .given .1))
 
 extend-requires-2 : tie.Need-extend-requires-2
@@ -38,7 +36,6 @@ enum-told-3 : tie.Need-enum-told-3
 enum-told-3 c = search needs
 
 word-at-requires : tie.Need-word-at-requires
-unfolding bytesOf
 word-at-requires c κs = omega (arith, ap bytesOf (c .enum-told3 .given .1))
 
 returns : tie.Need-returns

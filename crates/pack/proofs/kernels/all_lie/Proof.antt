@@ -1,4 +1,4 @@
--- `kernel::pack::all_lie` meets its contract. The loop's invariant: `all` says whether each of the first k kernels lies in the code.
+-- `pack::kernels::all_lie` meets its contract. The loop's invariant: `all` says whether each of the first k kernels lies in the code.
 -- Assumes nothing.
 use Prim.Native.Nat.{_-_, _≤_}
 use mathlib.Core.Path.{_≡_, refl}

@@ -1,4 +1,4 @@
--- `kernel::pack::code_count` meets its contract. Assumes nothing.
+-- `pack::kernels::code_count` meets its contract. Assumes nothing.
 use Rattle.pack.specs.Kernels.{codeCount}
 use borrow.Author.Needs.{needs}
 use Rattle.pack.proofs.kernels.code_count.Statement.{statement}

@@ -1,4 +1,4 @@
--- `kernel::pack::kernel_at` meets its contract. Assumes nothing.
+-- `pack::kernels::kernel_at` meets its contract. Assumes nothing.
 use Rattle.pack.specs.Kernels.{kernelOf}
 use borrow.Author.Needs.{needs}
 use Rattle.pack.proofs.kernels.kernel_at.Statement.{statement}

@@ -1,4 +1,4 @@
--- `kernel::pack::lies_in_code` meets its contract. Assumes nothing.
+-- `pack::kernels::lies_in_code` meets its contract. Assumes nothing.
 use Rattle.pack.specs.Kernels.{liesInCode}
 use borrow.Author.Needs.{needs}
 use Rattle.pack.proofs.kernels.lies_in_code.Statement.{statement}

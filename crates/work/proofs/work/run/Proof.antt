@@ -1,4 +1,4 @@
--- `command::work::run` meets its contract. Assumes nothing.
+-- `work::work::run` meets its contract. Assumes nothing.
 use Rattle.work.specs.Work.{dispatchedBy}
 use borrow.Author.Needs.{needs}
 use Rattle.work.proofs.work.run.Statement.{statement}
@@ -15,7 +15,7 @@ same-length c = search needs
 
 returns : tie.Need-returns
 unfolding dispatchedBy
-returns c = (cc, c .before .before .before .dispatch .ensures .memory)
+returns c = (cc, c .before .before .before .dispatch .ensures .window)
 
 pub run-spec : {M : Type 1} → statement M
 run-spec = tie.close (tie.spec dispatch-requires ran-outcome-requires same-length returns)

@@ -16,18 +16,13 @@ use Rattle.words.specs.Choice.{either}
 use Rattle.command.specs.Header.{commandAt}
 use Rattle.command.proofs.Sizes.{size-least}
 use Rattle.state.specs.declared.device.Device.{Device}
-use Rattle.state.specs.declared.refusal.Verdict.{Verdict}
-use Rattle.state.specs.declared.refusal.Verdict.the-variants.{Sound, Refused}
-use Rattle.state.specs.declared.ready.Picked.{Picked}
-use Rattle.state.specs.declared.ready.Picked.the-variants.{Ring as Picks, Nobody}
 use Rattle.device.specs.declared.turn.Report.{Report}
 use Rattle.device.specs.declared.turn.Answer.the-variants.{Served}
 use Rattle.state.specs.Device.{Shaped, ringOf, withRing, withSlots, withMarker}
-use Rattle.state.specs.Ready.{bytesOfRing, pickOf}
-use Rattle.device.specs.Turn.{Call, unchanged, emitTo, ringAfter, deviceAfter, finished, servedOf, pickedOf, judgedOf, verdictOn, turnOf}
-use Rattle.device.specs.Left.{leftOf, sumOf, bytesLeft}
-use Rattle.device.proofs.Verdicts.{servable}
+use Rattle.device.specs.Turn.{Call, ringIn, unchanged, emitTo, ringAfter, deviceAfter, finished, servedOf, turnOf}
+use Rattle.device.specs.Untaken.{untakenOf, sumOf, untakenIn}
 use Rattle.device.proofs.Wholes.{whole-inside}
+use Rattle.device.proofs.Turns.{turn-cases, picked-servable}
 
 -- an emit changes no ring
 emit-rings : (b : Bool) (d : Device) (n : ℕ) → emitTo b d n .rings ≡ d .rings
@@ -49,21 +44,21 @@ module _ (d : Device) (q : ℕ) (c : Command) (p : Performed) where
   unfolding ringOf
   other-ring j h = rw rings-after (getD-set-other (d .rings) q j _ _ h)
 
--- a served ring has at least 16 bytes fewer left, the others as many as before
+-- a served ring has at least 16 bytes fewer untaken, the others as many as before
 module _ (d : Device) (q : ℕ) (ring : List ℕ) (p : Performed) (four : length (d .rings) ≡ 4) (number : q < 4)
     (inside : ringOf d q .cursor + commandAt ring (ringOf d q .cursor) .size ≤ length ring) where
   here : Device
   here = deviceAfter d q (commandAt ring (ringOf d q .cursor)) p
 
-  served-left : leftOf here q ring + 16 ≤ leftOf d q ring
-  unfolding leftOf here ringAfter
-  served-left =
+  served-untaken : untakenOf here q ring + 16 ≤ untakenOf d q ring
+  unfolding untakenOf here ringAfter
+  served-untaken =
       rw (served-ring d q (commandAt ring (ringOf d q .cursor)) p (omega arith))
       (omega (arith, size-least ring (ringOf d q .cursor)))
 
-  other-left : (j : ℕ) (other : List ℕ) → (j ≡ q → ⊥) → leftOf here j other ≡ leftOf d j other
-  unfolding leftOf here
-  other-left j other h = rw (other-ring d q (commandAt ring (ringOf d q .cursor)) p j h)
+  other-untaken : (j : ℕ) (other : List ℕ) → (j ≡ q → ⊥) → untakenOf here j other ≡ untakenOf d j other
+  unfolding untakenOf here
+  other-untaken j other h = rw (other-ring d q (commandAt ring (ringOf d q .cursor)) p j h)
 
 -- sums of numbers that agree
 same-sum : (n : ℕ) (f g : ℕ → ℕ) → ((j : ℕ) → j < n → f j ≡ g j) → sumOf n f ≡ sumOf n g
@@ -89,35 +84,17 @@ sum-falls (suc n) f g q h same less = last (eqb q n) refl (λ b. sum-falls n f g
         omega (arith, lower (omega arith))
 
 -- a turn that serves leaves at least 16 bytes fewer
-module _ (limit : ℕ) (d : Device) (call : Call) (shaped : Shaped d) where
-  bytes : ℕ → List ℕ
-  bytes q = bytesOfRing q (call .ring0) (call .ring1) (call .ring2) (call .ring3)
-
-  picked-falls : (q : ℕ) (report : Report) → verdictOn d call ≡ Sound
-      → pickOf d (call .ring0) (call .ring1) (call .ring2) (call .ring3) ≡ Picks q
-      → bytesLeft (pickedOf limit d call (Picks q) .turned .device) call + 16 ≤ bytesLeft d call
-  unfolding verdictOn pickedOf servedOf finished bytesLeft bytes here
-  picked-falls q report sound pick =
-      let s = servable d (length (call .memory)) (call .ring0) (call .ring1) (call .ring2) (call .ring3) (length (call .pipe)) (call .pack) sound q pick in
-      let inside = whole-inside (bytes q) (ringOf d q .cursor) (s .whole) in
-      sum-falls 4 _ (λ j. leftOf d j (bytes j)) q (s .number)
-      (λ j h. other-left d q (bytes q) _ (shaped .rings) (s .number) inside j (bytes j) h)
-      (served-left d q (bytes q) _ (shaped .rings) (s .number) inside)
-
-  on-pick : (k : Picked) (report : Report) → verdictOn d call ≡ Sound
-      → pickOf d (call .ring0) (call .ring1) (call .ring2) (call .ring3) ≡ k
-      → pickedOf limit d call k .turned .answer ≡ Served report → bytesLeft (pickedOf limit d call k .turned .device) call + 16 ≤ bytesLeft d call
-  unfolding pickedOf unchanged
-  on-pick (Picks q) report sound pick e = picked-falls q report sound pick
-  on-pick Nobody report sound pick e = absurd (let z : _≡_ {A = ℕ} 0 1 = cc in omega arith)
-
-  on-verdict : (v : Verdict) (report : Report) → verdictOn d call ≡ v → judgedOf limit d call v .turned .answer ≡ Served report
-      → bytesLeft (judgedOf limit d call v .turned .device) call + 16 ≤ bytesLeft d call
-  unfolding judgedOf unchanged
-  on-verdict Sound report sound e = on-pick _ report sound refl e
-  on-verdict (Refused why) report sound e = absurd (let z : _≡_ {A = ℕ} 0 1 = cc in omega arith)
-
-  pub served-takes : (report : Report) → turnOf limit d call .turned .answer ≡ Served report
-      → bytesLeft (turnOf limit d call .turned .device) call + 16 ≤ bytesLeft d call
-  unfolding turnOf
-  served-takes report e = on-verdict (verdictOn d call) report refl e
+pub served-takes : (d : Device) (call : Call) → Shaped d → (report : Report) → turnOf d call .turned .answer ≡ Served report
+    → untakenIn (ringIn call) (turnOf d call .turned .device) + 16 ≤ untakenIn (ringIn call) d
+unfolding unchanged servedOf finished untakenIn here
+served-takes d call shaped report =
+    turn-cases d call
+    (λ end. end .turned .answer ≡ Served report → untakenIn (ringIn call) (end .turned .device) + 16 ≤ untakenIn (ringIn call) d)
+    (λ why v e. absurd (let z : _≡_ {A = ℕ} 0 1 = cc in omega arith))
+    (λ sound p e. absurd (let z : _≡_ {A = ℕ} 0 1 = cc in omega arith))
+    (λ q sound p e.
+    let s = picked-servable d call q sound p in
+    let inside = whole-inside (ringIn call q) (ringOf d q .cursor) (s .whole) in
+    sum-falls 4 _ (λ j. untakenOf d j (ringIn call j)) q (s .number)
+    (λ j h. other-untaken d q (ringIn call q) _ (shaped .rings) (s .number) inside j (ringIn call j) h)
+    (served-untaken d q (ringIn call q) _ (shaped .rings) (s .number) inside))
