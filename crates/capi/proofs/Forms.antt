@@ -11,7 +11,6 @@ use Rattle.memory.proofs.Places.{word-fits}
 use Rattle.command.specs.declared.header.Command.{Command}
 use Rattle.command.specs.declared.frame.Frame.{Frame}
 use Rattle.work.specs.declared.work.Performed.{Performed}
-use Rattle.words.specs.Choice.{either}
 use Rattle.command.specs.Frame.{strideOf}
 use Rattle.command.specs.Header.{commandAt}
 use Rattle.command.specs.Report.{emits}
@@ -95,7 +94,7 @@ module _ (ring : List ℕ) (bytes : OfBytes ring) (cursor : ℕ) (full : Bool) (
   c = commandAt ring cursor
 
   held-fits : FrameFits (heldBy c)
-  unfolding heldBy heldOf baseOf strideOf formatOf commandAt
+  unfolding heldBy commandAt
   held-fits = record { held = omega arith; base = word-fits ring _ bytes; stride = word-fits ring _ bytes; format = word-fits ring _ bytes }
 
   abbrev Held : Left → Type 0
@@ -155,7 +154,6 @@ abbrev WindowFits : Window → Type 0
 WindowFits w = (w .start < 2 ^ 32) × (w .length < 2 ^ 32)
 
 fresh-ring : (w : Window) → WindowFits w → Fits (ringWords (record { window = w; cursor = 0; frame = Frame.Unset }))
-unfolding heldOf baseOf strideOf formatOf
 fresh-ring w h = ring-fits _ (h .0) (h .1) (omega arith) (record { held = omega arith; base = omega arith; stride = omega arith; format = omega arith })
 
 fresh-formed : (w0 w1 w2 w3 : Window) → WindowFits w0 → WindowFits w1 → WindowFits w2 → WindowFits w3 → Formed (freshDevice w0 w1 w2 w3)
@@ -166,7 +164,7 @@ fresh-formed w0 w1 w2 w3 h0 h1 h2 h3 =
     (fits-zeros 64) (omega arith)
 
 pub fresh-forms : FreshForms
-unfolding freshOf either windowAt
+unfolding freshOf windowAt
 fresh-forms windows memory bytes = go (memoryFits memory (windowAt windows 0) (windowAt windows 2) (windowAt windows 4) (windowAt windows 6)) refl
   where
     at : (k : ℕ) → WindowFits (windowAt windows k)

@@ -9,7 +9,6 @@ use lib.ListN.{length, getD}
 use lib.Seq.{take-all, take-at, getD-at}
 use Rattle.command.specs.declared.frame.Frame.{Frame}
 use Rattle.command.specs.declared.frame.Frame.the-variants.{Unset, Held}
-use Rattle.words.specs.Choice.{either}
 use Rattle.command.specs.Frame.{strideOf}
 use Rattle.state.specs.declared.device.Ring.{Ring}
 use Rattle.state.specs.Device.{emptyWindow, freshRing, ringOf}
@@ -19,7 +18,7 @@ use Rattle.capi.proofs.Sizes.{words-length}
 use Rattle.capi.proofs.WordBytes.{word-in-bytes, words-in-bytes, words-in-append, bytes-of-words-in}
 
 frame-back : (f : Frame) → frameOf (heldOf f) (baseOf f) (strideOf f) (formatOf f) ≡ f
-unfolding frameOf heldOf baseOf strideOf formatOf either
+unfolding frameOf
 frame-back Unset = refl
 frame-back (Held base stride format) = refl
 
@@ -64,7 +63,7 @@ decode-encode d formed =
 
 frame-words : {h b s f : ℕ} → NormalFrame h b s f
     → heldOf (frameOf h b s f) ∷ baseOf (frameOf h b s f) ∷ strideOf (frameOf h b s f) ∷ formatOf (frameOf h b s f) ∷ [] ≡ h ∷ b ∷ s ∷ f ∷ []
-unfolding frameOf heldOf baseOf strideOf formatOf either
+unfolding frameOf
 frame-words held = refl
 frame-words unset = refl
 

@@ -1,11 +1,10 @@
 -- What the two calls leave in the bytes that they are lent, and what they answer.
 use Prim.Native.Nat.{ℕ, _*_}
 use mathlib.Core.Path.{_≡_}
-use mathlib.Core.Bool.{Bool}
+use mathlib.Core.Bool.{Bool, cond}
 use mathlib.Core.List.{List}
 use lib.Dec.{eqb}
 use lib.ListN.{length}
-use Rattle.words.specs.Choice.{either}
 use Rattle.state.specs.declared.device.Device.{Device}
 use Rattle.device.specs.declared.fresh.Fresh.{Fresh}
 use Rattle.device.specs.declared.turn.Answer.{Answer}
@@ -36,8 +35,8 @@ freshFor windows memory = freshOf memory (windowAt windows 0) (windowAt windows 
 -- the image of a fresh device; 201 for an image of the wrong length, else 203 for windows of the wrong length
 unfoldable pub freshCall : List ℕ → List ℕ → ℕ → Freshened
 freshCall image windows memory =
-    either (eqb (length image) imageLength)
-    (either (eqb (length windows) windowsLength)
+    cond (eqb (length image) imageLength)
+    (cond (eqb (length windows) windowsLength)
     (record { image = encode (freshFor windows memory .device); answer = makingNumber (freshFor windows memory .answer) })
     (record { image = image; answer = 203 }))
     (record { image = image; answer = 201 })
@@ -59,12 +58,12 @@ pub record Leaves (i m p t : List ℕ) (r : ℕ) (c : Called) : Type 0 where
   pub answer : r ≡ c .answer
 
 -- a command was taken
-unfoldable pub isServed : Answer → Bool
+abbrev pub isServed : Answer → Bool
 isServed answer = eqb (answerNumber answer) 0
 
 -- a served turn's device is put into the image; any other turn leaves it byte for byte
 unfoldable pub imageAfter : List ℕ → Device → Answer → List ℕ
-imageAfter image d answer = either (isServed answer) (encode d) image
+imageAfter image d answer = cond (isServed answer) (encode d) image
 
 -- a turn's results, over the image that it started from
 unfoldable pub calledOf : List ℕ → TurnEnd → Called
@@ -84,8 +83,8 @@ untouched image report call answer =
 -- one turn of the image's device; 201 for an image of the wrong length, else 202 for a report of the wrong length
 unfoldable pub turnCall : List ℕ → List ℕ → Call → Called
 turnCall image report call =
-    either (eqb (length image) imageLength)
-    (either (eqb (length report) reportLength)
+    cond (eqb (length image) imageLength)
+    (cond (eqb (length report) reportLength)
     (calledOf image (turnOf (decode image) call))
     (untouched image report call 202))
     (untouched image report call 201)

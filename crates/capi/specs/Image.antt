@@ -1,4 +1,5 @@
 -- The image of a device: little-endian words. Each ring has seven, then come the 64 slots and the marker.
+use mathlib.Core.Bool.{cond}
 use Prim.Native.Nat.{ℕ, zero, suc, _+_, _*_}
 use mathlib.Core.List.{List, [], _∷_, _++_}
 use lib.Dec.{eqb}
@@ -6,7 +7,6 @@ use Rattle.words.specs.Bytes.{byteOf}
 use Rattle.memory.specs.Place.{wordAt}
 use Rattle.command.specs.declared.frame.Frame.{Frame}
 use Rattle.command.specs.declared.frame.Frame.the-variants.{Unset, Held}
-use Rattle.words.specs.Choice.{either}
 use Rattle.command.specs.Frame.{strideOf}
 use Rattle.state.specs.declared.device.Window.{Window}
 use Rattle.state.specs.declared.device.Ring.{Ring}
@@ -41,17 +41,17 @@ wordsIn bytes k zero = []
 wordsIn bytes k (suc n) = wordsIn bytes k n ++ (wordIn bytes (k + n) ∷ [])
 
 -- 1 of a held frame; 0 of no frame
-unfoldable pub heldOf : Frame → ℕ
+abbrev pub heldOf : Frame → ℕ
 heldOf Unset = 0
 heldOf (Held base stride format) = 1
 
 -- a frame's base; 0 of no frame
-unfoldable pub baseOf : Frame → ℕ
+abbrev pub baseOf : Frame → ℕ
 baseOf Unset = 0
 baseOf (Held base stride format) = base
 
 -- a frame's format; 0 of no frame
-unfoldable pub formatOf : Frame → ℕ
+abbrev pub formatOf : Frame → ℕ
 formatOf Unset = 0
 formatOf (Held base stride format) = format
 
@@ -74,7 +74,7 @@ encode d = bytesOf (wordsOf d)
 
 -- the frame of four words: any first word but 0 holds one
 unfoldable pub frameOf : ℕ → ℕ → ℕ → ℕ → Frame
-frameOf held base stride format = either (eqb held 0) Unset (Held base stride format)
+frameOf held base stride format = cond (eqb held 0) Unset (Held base stride format)
 
 -- the window of the two words from word k on
 unfoldable pub windowAt : List ℕ → ℕ → Window

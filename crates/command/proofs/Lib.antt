@@ -1,5 +1,4 @@
-pub mod Every
-pub mod Entries
+pub mod TableRows
 pub mod Outcomes
 pub mod Sizes
 pub mod Agree

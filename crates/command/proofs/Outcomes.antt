@@ -22,7 +22,6 @@ outcomeOf n = getD outcomes n Done
 
 -- a number is one of 0 to 14, and its outcome is read back
 pub number-place : (o : Outcome) → (outcomeNumber o < 15) × (outcomeOf (outcomeNumber o) ≡ o)
-unfolding outcomeNumber
 number-place Done = (lit< tt, refl)
 number-place UnknownOpcode = (lit< tt, refl)
 number-place ReservedFlag = (lit< tt, refl)
@@ -44,5 +43,4 @@ pub same-number : (a b : Outcome) → outcomeNumber a ≡ outcomeNumber b → a 
 same-number a b e = sym (number-place a .1) ∙ ap outcomeOf e ∙ number-place b .1
 
 pub done-is : (o : Outcome) → isDone o ≡ true → o ≡ Done
-unfolding outcomeNumber
 done-is o e = same-number o Done (eqb-true (outcomeNumber o) 0 e)

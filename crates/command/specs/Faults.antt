@@ -1,7 +1,7 @@
 -- Header faults, outcomes 1 to 4.
-use mathlib.Core.Bool.{Bool, not, _&&_, _||_}
+use mathlib.Core.Bool.{Bool, not, _&&_, _||_, cond}
 use lib.Dec.{ltb}
-use Rattle.words.specs.Choice.{differ, either}
+use Rattle.words.specs.Choice.{differ}
 use Rattle.command.specs.declared.outcome.Outcome.{Outcome}
 use Rattle.command.specs.declared.outcome.Outcome.the-variants.{Done, UnknownOpcode, ReservedFlag, WrongPayloadBit, NoSuchSlot}
 use Rattle.command.specs.declared.header.Command.{Command}
@@ -23,8 +23,8 @@ noSuchSlot c = (emitBit (c .flags) || waitBit (c .flags)) && ltb 63 (c .rdst)
 -- the smallest of 1 to 4 that applies; 2 is a reserved flag
 unfoldable pub headerFault : Command → Outcome
 headerFault c =
-    either (unknownOpcode c) UnknownOpcode
-    (either (reservedBit (c .flags)) ReservedFlag
-    (either (wrongPayloadBit c) WrongPayloadBit
-    (either (noSuchSlot c) NoSuchSlot
+    cond (unknownOpcode c) UnknownOpcode
+    (cond (reservedBit (c .flags)) ReservedFlag
+    (cond (wrongPayloadBit c) WrongPayloadBit
+    (cond (noSuchSlot c) NoSuchSlot
     Done)))

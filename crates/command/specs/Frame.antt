@@ -1,8 +1,7 @@
 -- A ring's frame, and the test that SET_FB makes of one.
 use Prim.Native.Nat.{ℕ, _%_}
-use mathlib.Core.Bool.{Bool, not, _||_}
+use mathlib.Core.Bool.{Bool, not, _||_, cond}
 use lib.Dec.{eqb, ltb, leb}
-use Rattle.words.specs.Choice.{either}
 use Rattle.command.specs.declared.outcome.Outcome.{Outcome}
 use Rattle.command.specs.declared.outcome.Outcome.the-variants.{Done, Misaligned, OutsideTheWindow, BadFrame}
 use Rattle.command.specs.declared.frame.Frame.{Frame}
@@ -27,9 +26,9 @@ frameUnfit stride format = ltb stride 4 || ltb 65536 stride || not (eqb format 0
 -- the smallest that applies
 unfoldable pub frameFault : ℕ → ℕ → ℕ → ℕ → Outcome
 frameFault base stride format length =
-    either (frameMisaligned base stride) Misaligned
-    (either (frameOutside base length) OutsideTheWindow
-    (either (frameUnfit stride format) BadFrame
+    cond (frameMisaligned base stride) Misaligned
+    (cond (frameOutside base length) OutsideTheWindow
+    (cond (frameUnfit stride format) BadFrame
     Done))
 
 -- the test of a frame that a ring has; an unset frame passes it
@@ -38,6 +37,6 @@ heldFault Unset length = Done
 heldFault (Held base stride format) length = frameFault base stride format length
 
 -- a frame's stride; 0 of no frame
-unfoldable pub strideOf : Frame → ℕ
+abbrev pub strideOf : Frame → ℕ
 strideOf Unset = 0
 strideOf (Held base stride format) = stride

@@ -6,7 +6,7 @@ use Rattle.command.specs.declared.outcome.Outcome.{Outcome}
 use Rattle.command.specs.declared.outcome.Outcome.the-variants.{Done, UnknownOpcode, ReservedFlag, WrongPayloadBit, NoSuchSlot, SlotFull, Misaligned, NoFrame, OutsideTheWindow, BadFrame, BadDispatch, NotListed, OffTheKernel, AccessOutside, OutOfSteps}
 
 -- the number of each outcome in the table of outcome numbers
-unfoldable pub outcomeNumber : Outcome → ℕ
+abbrev pub outcomeNumber : Outcome → ℕ
 outcomeNumber Done = 0
 outcomeNumber UnknownOpcode = 1
 outcomeNumber ReservedFlag = 2

@@ -1,8 +1,7 @@
 -- What a command and its outcome make a turn report.
 use Prim.Native.Nat.{ℕ}
-use mathlib.Core.Bool.{Bool, _&&_, _||_}
+use mathlib.Core.Bool.{Bool, _&&_, _||_, cond}
 use lib.Dec.{eqb, leb}
-use Rattle.words.specs.Choice.{either}
 use Rattle.command.specs.declared.outcome.Outcome.{Outcome}
 use Rattle.command.specs.declared.header.Command.{Command}
 use Rattle.command.specs.Opcode.{readMem}
@@ -23,4 +22,4 @@ interrupts c o = irqBit (c .flags) && doneOrFrom 5 o
 
 -- words read is len for a READ_MEM with outcome 0, else 0
 unfoldable pub wordsRead : Command → Outcome → ℕ
-wordsRead c o = either (eqb (c .opcode) readMem && isDone o) (c .len) 0
+wordsRead c o = cond (eqb (c .opcode) readMem && isDone o) (c .len) 0

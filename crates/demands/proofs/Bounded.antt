@@ -1,14 +1,13 @@
 -- Turns over unchanging rings come to an end.
 -- Assumes nothing.
 use mathlib.Core.Path.{_≡_, refl, ap}
-use mathlib.Core.Bool.{false}
+use mathlib.Core.Bool.{false, cond}
 use mathlib.Core.List.{List, [], _∷_}
 use mathlib.Core.Logic.{_⊎_, inl, inr}
 use Prim.Native.Nat.{ℕ, _+_, _*_, _≤_, _<_}
 use native.Mathlib.Nat.{not-suc-le-zero}
 use native.Mathlib.Omega.{arith}
 use lib.Dec.{eqb, lit<}
-use Rattle.words.specs.Choice.{either}
 use Rattle.state.specs.declared.device.Device.{Device}
 use Rattle.state.specs.declared.refusal.Refusal.{Refusal}
 use Rattle.device.specs.declared.turn.Report.{Report}
@@ -37,9 +36,9 @@ lent-untaken R d call lends = rw (lends 0 (lit< tt), lends 1 (lit< tt), lends 2 
 
 -- a served turn takes one command
 one-served : (report : Report) → report .ring < 4 → sumOf 4 (served (Served report)) ≡ 1
-unfolding sumOf served answerNumber valuesOf either
+unfolding sumOf served valuesOf
 one-served report four =
-    each-of-four (λ r. 0 + either (eqb 0 r) 1 0 + either (eqb 1 r) 1 0 + either (eqb 2 r) 1 0 + either (eqb 3 r) 1 0 ≡ 1) refl refl refl refl (report .ring) four
+    each-of-four (λ r. 0 + cond (eqb 0 r) 1 0 + cond (eqb 1 r) 1 0 + cond (eqb 2 r) 1 0 + cond (eqb 3 r) 1 0 ≡ 1) refl refl refl refl (report .ring) four
 
 -- a refused one none
 none-served : (why : Refusal) → sumOf 4 (served (Refused why)) ≡ 0
@@ -49,11 +48,11 @@ none-served why = rw (refused-serves why 0, refused-serves why 1, refused-serves
 -- and its bytes; a turn that serves none takes none, and it is refused or idle
 record Takes (R : ℕ → List ℕ) (d after : Device) (answer : Answer) : Type 0 where
   bytes : 16 * sumOf 4 (served answer) + untakenIn R after ≤ untakenIn R d
-  counts : (answer ≡ Idle) ⊎ (either (isRefused answer) 0 1 ≡ sumOf 4 (served answer))
+  counts : (answer ≡ Idle) ⊎ (cond (isRefused answer) 0 1 ≡ sumOf 4 (served answer))
 
 module _ (d : Device) (call : Call) (R : ℕ → List ℕ) (shaped : Shaped d) where
   turn-takes : (isRefused (answerOf d call) ≡ false → Lends R call) → Takes R d (leftBy d call) (answerOf d call)
-  unfolding sumOf served isRefused answerNumber either
+  unfolding sumOf served isRefused
   turn-takes lends = go (answerOf d call) refl lends
     where
       go : (answer : Answer) → answerOf d call ≡ answer → (isRefused answer ≡ false → Lends R call) → Takes R d (leftBy d call) answer
@@ -87,14 +86,14 @@ turns-bounded d shaped R (call ∷ calls) (more lends each) =
     omega (arith, now .bytes, further, both)
 
 pub idle-in-time : IdleInTime
-unfolding IdleInTime heard answerNumber
+unfolding IdleInTime heard
 idle-in-time d shaped R [] none enough = absurd (not-suc-le-zero enough)
 idle-in-time d shaped R (call ∷ calls) (more lends each) enough =
     let now = turn-takes d call R shaped lends in
     go (now .bytes) (now .counts) (idle-in-time (leftBy d call) (turn-shaped d call shaped) R calls each)
   where
     go : 16 * sumOf 4 (served (answerOf d call)) + untakenIn R (leftBy d call) ≤ untakenIn R d
-        → (answerOf d call ≡ Idle) ⊎ (either (isRefused (answerOf d call)) 0 1 ≡ sumOf 4 (served (answerOf d call)))
+        → (answerOf d call ≡ Idle) ⊎ (cond (isRefused (answerOf d call)) 0 1 ≡ sumOf 4 (served (answerOf d call)))
         → (untakenIn R (leftBy d call) < 16 * heard (leftBy d call) calls → SaysIdle (leftBy d call) calls)
         → SaysIdle d (call ∷ calls)
     go bytes (inl idle) further = here (ap answerNumber idle)

@@ -10,7 +10,6 @@ use lib.ListN.{getD, set}
 use lib.Seq.{getD-set-other}
 use Rattle.command.specs.declared.header.Command.{Command}
 use Rattle.work.specs.declared.work.Performed.{Performed}
-use Rattle.words.specs.Choice.{either}
 use Rattle.command.specs.Report.{emits}
 use Rattle.state.specs.declared.device.Ring.{Ring}
 use Rattle.state.specs.declared.device.Device.{Device}
@@ -32,7 +31,7 @@ put-rises (x ∷ xs) (suc n) v (suc m) h = put-rises xs n v m h
 
 pub emit-rises : (b : Bool) (d : Device) (n : ℕ) → SlotsFit d → (b ≡ true → isFull (slotOf d n) ≡ true → ⊥) → (m : ℕ)
     → slotOf d m ≤ slotOf (emitTo b d n) m
-unfolding emitTo either withSlots emittedIn slotOf SlotsFit
+unfolding emitTo withSlots emittedIn slotOf SlotsFit
 emit-rises true d n fit room m =
     let below : getD (d .slots) n 0 < 2 ^ 32 = fit n in
     let not-full : getD (d .slots) n 0 ≡ 4294967295 → ⊥ = λ is. room refl (eq-eqb _ _ is) in
@@ -73,11 +72,11 @@ module _ (d : Device) (q : ℕ) (c : Command) (p : Performed) where
 
   -- an emit puts the new number in its slot, and nothing else changes a slot
   pub after-emit : emits c (p .outcome) ≡ true → deviceAfter d q c p .slots ≡ set (d .slots) (c .rdst) (emitted (slotOf d (c .rdst)))
-  unfolding deviceAfter withMarker withRing emitTo either withSlots emittedIn slotOf
+  unfolding deviceAfter withMarker withRing emitTo withSlots emittedIn slotOf
   after-emit e = rw e
 
   pub after-no-emit : emits c (p .outcome) ≡ false → deviceAfter d q c p .slots ≡ d .slots
-  unfolding deviceAfter withMarker withRing emitTo either withSlots
+  unfolding deviceAfter withMarker withRing emitTo withSlots
   after-no-emit e = rw e
 
   pub after-other-slot : (n : ℕ) → (n ≡ c .rdst → ⊥) → slotOf (deviceAfter d q c p) n ≡ slotOf d n

@@ -109,7 +109,7 @@ limit-tied limit pack kernel g j threads groups window =
 
 -- the number 14 is that of a dispatch out of steps
 fourteen-is : (r : Ran) → (outcomeNumber (ranOutcome r) ≡ 14) ↔ (r ≡ StoppedFor OutOfSteps)
-unfolding outcomeNumber ranOutcome
+unfolding ranOutcome
 fourteen-is r = (there r, λ e. rw e)
   where
     there : (r : Ran) → outcomeNumber (ranOutcome r) ≡ 14 → r ≡ StoppedFor OutOfSteps
@@ -130,7 +130,7 @@ dispatch-fourteen d call served is =
     (λ n. first .0 (number .0 (sym same ∙ n)), λ f. same ∙ number .1 (first .1 f))
 
 pub each-step : EachStep
-unfolding EachStep outcomeNumber ranOutcome
+unfolding EachStep ranOutcome
 each-step d call = record {
   served = dispatch-served d call;
   threads = threads-in-order (limitOf d) (call .pack);

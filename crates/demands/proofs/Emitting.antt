@@ -1,7 +1,7 @@
 -- A command that emits has one of the 64 slots.
 -- Assumes nothing.
 use mathlib.Core.Path.{_≡_, refl, sym, _∙_}
-use mathlib.Core.Bool.{Bool, true, false, _&&_, _||_}
+use mathlib.Core.Bool.{Bool, true, false, _&&_, _||_, cond}
 use mathlib.Core.List.{List}
 use Prim.Native.Nat.{ℕ, _<_}
 use native.Mathlib.Omega.{arith}
@@ -10,10 +10,9 @@ use borrow.Author.Tests.{ltb-false}
 use Rattle.command.specs.declared.header.Command.{Command}
 use Rattle.command.specs.declared.frame.Frame.{Frame}
 use Rattle.command.specs.declared.outcome.Outcome.the-variants.{Done, UnknownOpcode, ReservedFlag, WrongPayloadBit, NoSuchSlot}
-use Rattle.words.specs.Choice.{either}
 use Rattle.command.specs.Faults.{unknownOpcode, wrongPayloadBit, noSuchSlot, headerFault}
 use Rattle.command.specs.Flags.{emitBit, waitBit, reservedBit}
-use Rattle.command.specs.Outcome.{outcomeNumber, isDone}
+use Rattle.command.specs.Outcome.{isDone}
 use Rattle.work.specs.Perform.{performedOf}
 use Rattle.command.specs.Report.{emits}
 use Rattle.words.proofs.Choices.{both-left, both-right, not-held}
@@ -22,9 +21,8 @@ use Rattle.demands.proofs.Works.{full-slot-stays, emits-when-sound}
 
 -- no header fault: the slot's number is not too large
 no-fault : (unknown reserved payload slot : Bool)
-    → isDone (either unknown UnknownOpcode (either reserved ReservedFlag (either payload WrongPayloadBit (either slot NoSuchSlot Done)))) ≡ true
+    → isDone (cond unknown UnknownOpcode (cond reserved ReservedFlag (cond payload WrongPayloadBit (cond slot NoSuchSlot Done)))) ≡ true
     → slot ≡ false
-unfolding either outcomeNumber
 no-fault true reserved payload slot e = cc
 no-fault false true payload slot e = cc
 no-fault false false true slot e = cc

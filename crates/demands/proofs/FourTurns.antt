@@ -11,7 +11,6 @@ use lib.Dec.{eqb}
 use lib.ListN.{getD}
 use borrow.Author.Tests.{leb-true, le-leb, eqb-true, eqb-false}
 use Rattle.command.specs.declared.header.Command.{Command}
-use Rattle.words.specs.Choice.{either}
 use Rattle.command.specs.Flags.{waitBit}
 use Rattle.command.specs.Faults.{headerFault}
 use Rattle.command.specs.Header.{commandAt, isWhole}
@@ -21,7 +20,7 @@ use Rattle.words.proofs.Choices.{both-left, both-right}
 use Rattle.state.specs.declared.device.Device.{Device}
 use Rattle.state.specs.declared.ready.Picked.the-variants.{Ring as RingOf}
 use Rattle.state.specs.Device.{SlotsFit, ringOf, slotOf}
-use Rattle.device.specs.Answer.{answerNumber, valuesOf}
+use Rattle.device.specs.Answer.{valuesOf}
 use Rattle.state.specs.Slots.{isMet}
 use Rattle.state.specs.Ready.{readyWith, readyWhere, readyAt, pickOf}
 use Rattle.device.specs.Turn.{Call, TurnEnd, turnOf, unchanged, reportOf, finished, servedOf, ringIn, pickIn}
@@ -78,7 +77,7 @@ module _ (q : ℕ) (b : List ℕ) (k : ℕ) where
   module _ (d : Device) (call : Call) (j : ℕ) (w : Waiting j d) where
     -- another ring, i further than the marker, is served
     passed-by : (i : ℕ) → i < j → (walk i (d .marker) ≡ q → ⊥) → Step j d (servedIn d call (walk i (d .marker)))
-    unfolding servedOf finished reportOf isRefused answerNumber
+    unfolding servedOf finished reportOf isRefused
     passed-by i less other =
         let r = walk i (d .marker) in
         let c = headIn d call r in
@@ -96,7 +95,7 @@ module _ (q : ℕ) (b : List ℕ) (k : ℕ) where
 
     -- ring q itself is served
     served-now : (i : ℕ) → walk i (d .marker) ≡ q → Step j d (servedIn d call (walk i (d .marker)))
-    unfolding servedOf finished reportOf answerNumber valuesOf
+    unfolding servedOf finished reportOf valuesOf
     served-now i e = serves (record { served = refl; ring = e })
 
     reached : SameHead b k (ringIn call q) → (i : ℕ) × (i ≤ j) × (pickIn d call ≡ RingOf (walk i (d .marker)))
@@ -121,7 +120,7 @@ module _ (q : ℕ) (b : List ℕ) (k : ℕ) where
             (eq-or-lt-of-le le)
 
     step : (isRefused (answerOf d call) ≡ false → SameHead b k (ringIn call q)) → Step j d (turnOf d call)
-    unfolding unchanged isRefused answerNumber
+    unfolding unchanged isRefused
     step =
         turn-cases d call
         (λ a. (isRefused (a .turned .answer) ≡ false → SameHead b k (ringIn call q)) → Step j d a)
@@ -133,7 +132,7 @@ module _ (q : ℕ) (b : List ℕ) (k : ℕ) where
     -- as many turns as the ring is further than the marker, and one more
     near : (calls : List Call) (j : ℕ) (d : Device) → Waiting j d → EachHeard (λ call. SameHead b k (ringIn call q)) d calls
         → j < heard d calls → Serves q k d calls
-    unfolding heard either
+    unfolding heard
     near [] j d w each enough = absurd (not-suc-le-zero enough)
     near (call ∷ calls) j d w (more same each) enough = go (near calls) (step d call j w same)
       where
@@ -159,7 +158,7 @@ refused-or-marked d call =
 waits : (q : ℕ) (b : List ℕ) (k : ℕ) → q < 4 → (calls : List Call) (d : Device) → SlotsFit d → ringOf d q .cursor ≡ k
     → readyWith (commandAt b k) (slotOf d (commandAt b k .rdst)) ≡ true
     → EachHeard (λ call. SameHead b k (ringIn call q)) d calls → 4 ≤ heard d calls → Serves q k d calls
-unfolding heard either
+unfolding heard
 waits q b k four [] d fit at ready each enough = absurd (not-suc-le-zero enough)
 waits q b k four (call ∷ calls) d fit at ready (more same each) enough =
     ⊎-elim

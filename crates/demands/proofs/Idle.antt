@@ -1,7 +1,7 @@
 -- When the answer is idle, no order of starts gets further than the device did.
 -- Assumes nothing.
 use mathlib.Core.Path.{_≡_, refl, sym, ap, _∙_}
-use mathlib.Core.Bool.{Bool, true, false}
+use mathlib.Core.Bool.{Bool, true, false, cond}
 use mathlib.Core.List.{List, [], _∷_}
 use mathlib.Core.Logic.{⊎-elim}
 use Prim.Native.Nat.{ℕ, zero, suc, _+_, _≤_, _<_}
@@ -13,7 +13,6 @@ use lib.Seq.{getD-set-same}
 use borrow.Author.Tests.{eqb-true, eqb-false, eq-eqb, ne-eqb}
 use Rattle.command.specs.declared.header.Command.{Command}
 use Rattle.work.specs.declared.work.Performed.{Performed}
-use Rattle.words.specs.Choice.{either}
 use Rattle.command.specs.Report.{emits}
 use Rattle.state.specs.declared.device.Window.{Window}
 use Rattle.state.specs.declared.device.Device.{Device}
@@ -23,7 +22,6 @@ use Rattle.device.specs.declared.turn.Answer.the-variants.{Idle}
 use Rattle.state.specs.Device.{Shaped, freshDevice, ringOf, slotOf}
 use Rattle.state.specs.Ready.{readyWhere, readyAt, pickOf}
 use Rattle.state.specs.Slots.{emitted}
-use Rattle.device.specs.Answer.{answerNumber}
 use Rattle.device.specs.Turn.{Call, unchanged, deviceAfter, finished, reportOf, servedOf, verdictOn, ringIn, pickIn}
 use Rattle.device.specs.Untaken.{sumOf}
 use Rattle.device.proofs.Verdicts.{each-of-four, steady}
@@ -61,7 +59,6 @@ module _ (d : Device) (q : ℕ) (c : Command) (p : Performed) (shaped : Shaped d
   stays e = rw (after-no-emit d q c p (when ∙ e))
 
   slot-hit : slotOf (deviceAfter d q c p) s ≡ slotOf d s + hit c s
-  unfolding either
   slot-hit = go (isEmitting c) refl (eqb (c .rdst) s) refl
     where
       go : (b : Bool) → isEmitting c ≡ b → (t : Bool) → eqb (c .rdst) s ≡ t → slotOf (deviceAfter d q c p) s ≡ slotOf d s + hit c s
@@ -159,16 +156,15 @@ module _ (R : ℕ → List ℕ) where
     next-took = record { shaped = next-shaped; cursors = next-cursor; slots = next-slot }
 
     next-count : (q : ℕ) → oneMore t r q ≡ t q + served (servedIn d call r .turned .answer) q
-    unfolding either
     next-count q = rw (served-is d call r q) (go (eqb q r) refl)
       where
-        go : (b : Bool) → eqb q r ≡ b → oneMore t r q ≡ t q + either (eqb q r) 1 0
+        go : (b : Bool) → eqb q r ≡ b → oneMore t r q ≡ t q + cond (eqb q r) 1 0
         go true e = let here = eqb-true q r e in rw (here, more-here t r, eq-eqb r r refl) (omega arith)
         go false e = rw (more-other t r q (eqb-false q r e), e) (omega arith)
 
   turn-took : (d : Device) (t : ℕ → ℕ) → Took R d t → (call : Call) → (isRefused (answerOf d call) ≡ false → Lends R call)
       → (u : ℕ → ℕ) × Took R (leftBy d call) u × ((q : ℕ) → u q ≡ t q + served (answerOf d call) q)
-  unfolding unchanged served answerNumber either
+  unfolding unchanged served
   turn-took d t took call =
       turn-cases d call
       (λ a. (isRefused (a .turned .answer) ≡ false → Lends R call)

@@ -5,15 +5,13 @@ use Prim.Native.Nat.{ℕ, _+_, _≤_}
 use native.Mathlib.Omega.{arith}
 use lib.ListN.{length, getD}
 use Rattle.memory.proofs.Window.{window-length, put-back-window, put-back-length, put-back-outside}
-use Rattle.words.specs.Choice.{either}
 use Rattle.command.specs.Outcome.{outcomeNumber}
 use Rattle.command.specs.Report.{wordsRead}
 use Rattle.work.proofs.Reports as work
 use Rattle.state.specs.declared.device.Device.{Device}
 use Rattle.device.specs.declared.turn.Report.{Report}
 use Rattle.state.specs.Device.{ringOf}
-use Rattle.state.specs.Refusal.{refusalNumber}
-use Rattle.device.specs.Answer.{answerNumber, valuesOf, makingNumber}
+use Rattle.device.specs.Answer.{answerNumber, valuesOf}
 use Rattle.device.specs.Fresh.{freshOf}
 use Rattle.device.specs.Turn.{Call, unchanged, reportOf, finished, servedOf, turnOf}
 use Rattle.demands.specs.Calls.{headIn, numberIn, valuesIn}
@@ -26,7 +24,7 @@ use Rattle.demands.proofs.Devices.{after-frames}
 module _ (d : Device) (call : Call) where
   -- a turn that serves no ring
   not-served-same : 1 ≤ numberIn d call → Same d call (turnOf d call)
-  unfolding unchanged servedOf finished reportOf answerNumber valuesOf
+  unfolding unchanged servedOf finished reportOf valuesOf
   not-served-same =
       turn-cases d call (λ a. 1 ≤ answerNumber (a .turned .answer) → Same d call a)
       (λ why v least. record { device = refl; memory = refl; pipe = refl; values = refl })
@@ -91,7 +89,7 @@ unfolding TurnKeeps
 turn-keeps d call = keeps d call
 
 pub fresh-makes : FreshMakes
-unfolding FreshMakes freshOf either refusalNumber makingNumber
+unfolding FreshMakes freshOf
 fresh-makes memory w0 w1 w2 w3 = record {
   made = λ e. record { device = rw e; answer = rw e };
   refused = λ e. record { device = rw e; answer = rw e };

@@ -1,7 +1,7 @@
 -- Laws of the places and counts that an order of starts goes by.
 -- Assumes nothing.
 use mathlib.Core.Path.{_≡_, refl, ap}
-use mathlib.Core.Bool.{Bool, true, false, _&&_}
+use mathlib.Core.Bool.{Bool, true, false, _&&_, cond}
 use mathlib.Core.List.{List}
 use mathlib.Core.Logic.{⊎-elim}
 use Prim.Native.Nat.{ℕ, zero, suc, _+_, _*_, _≤_, _<_}
@@ -10,7 +10,6 @@ use native.Mathlib.Omega.{arith}
 use lib.Dec.{eqb}
 use borrow.Author.Tests.{eq-eqb, ne-eqb}
 use Rattle.command.specs.declared.header.Command.{Command}
-use Rattle.words.specs.Choice.{either}
 use Rattle.command.proofs.Sizes.{size-least}
 use Rattle.device.specs.Untaken.{sumOf}
 use Rattle.demands.specs.Idle.{placeOf, nth, isEmitting, emitsIn, countOf, oneMore}
@@ -18,10 +17,9 @@ use Rattle.demands.proofs.Sums.{sum-grows, sum-most}
 
 -- 1 if the command emits to the slot, else 0
 abbrev pub hit : Command → ℕ → ℕ
-hit c slot = either (isEmitting c && eqb (c .rdst) slot) 1 0
+hit c slot = cond (isEmitting c && eqb (c .rdst) slot) 1 0
 
-hit-most : (b : Bool) → either b 1 0 ≤ 1
-unfolding either
+hit-most : (b : Bool) → cond b 1 0 ≤ 1
 hit-most true = le-refl 1
 hit-most false = omega arith
 
@@ -48,11 +46,11 @@ module _ (b : List ℕ) where
 
 module _ (n : ℕ → ℕ) (r : ℕ) where
   pub more-here : oneMore n r r ≡ suc (n r)
-  unfolding oneMore either
+  unfolding oneMore
   more-here = rw (eq-eqb r r refl)
 
   pub more-other : (q : ℕ) → (q ≡ r → ⊥) → oneMore n r q ≡ n q
-  unfolding oneMore either
+  unfolding oneMore
   more-other q other = rw (ne-eqb q r other)
 
 module _ (R : ℕ → List ℕ) where

@@ -11,7 +11,6 @@ use borrow.Author.Tests.{eqb-true, eq-eqb, leb-true, le-leb, ltb-true, lt-ltb}
 use Rattle.command.specs.declared.header.Command.{Command}
 use Rattle.command.specs.declared.outcome.Outcome.{Outcome}
 use Rattle.work.specs.declared.work.Performed.{Performed}
-use Rattle.words.specs.Choice.{either}
 use Rattle.command.specs.Flags.{irqBit, emitBit}
 use Rattle.command.specs.Opcode.{readMem}
 use Rattle.command.specs.Outcome.{outcomeNumber, isDone}
@@ -64,11 +63,11 @@ module _ (c : Command) (o : Outcome) where
   )
 
   reads : Reads c (outcomeNumber o) → wordsRead c o ≡ c .len
-  unfolding wordsRead either
+  unfolding wordsRead
   reads r = rw (eq-eqb (c .opcode) readMem (r .0), eq-eqb (outcomeNumber o) 0 (r .1))
 
   reads-not : (Reads c (outcomeNumber o) → ⊥) → wordsRead c o ≡ 0
-  unfolding wordsRead either
+  unfolding wordsRead
   reads-not not =
       let is = eqb (c .opcode) readMem in
       rw (not-held (is && isDone o) (λ e. not (eqb-true _ _ (both-left is (isDone o) e), eqb-true _ _ (both-right is (isDone o) e))))
@@ -80,21 +79,21 @@ module _ (d : Device) (q : ℕ) (c : Command) (p : Performed) (shaped : Shaped d
   told = valuesOf (Served (reportOf d q c p))
 
   one-more : emits c (p .outcome) ≡ true → fenceOf (emits c (p .outcome)) (slotOf d (c .rdst)) ≡ slotOf d (c .rdst) + 1
-  unfolding fenceOf either SlotsFit
+  unfolding fenceOf SlotsFit
   one-more e =
       let below : slotOf d (c .rdst) < 2 ^ 32 = fit (c .rdst) in
       let not-full : slotOf d (c .rdst) ≡ 4294967295 → ⊥ = λ is. full e (eq-eqb _ _ is) in
       rw e (omega (arith, not-full))
 
   holds : emits c (p .outcome) ≡ true → slotOf (deviceAfter d q c p) (c .rdst) ≡ fenceOf (emits c (p .outcome)) (slotOf d (c .rdst))
-  unfolding fenceOf either slotOf
+  unfolding fenceOf slotOf
   holds e = rw (after-emit d q c p e, e) (getD-set-same (d .slots) (c .rdst) _ 0 (omega (arith, range e, shaped .slots)))
 
   silent : (Signals c (outcomeNumber (p .outcome)) → ⊥) → emits c (p .outcome) ≡ false
   silent not = not-held (emits c (p .outcome)) (λ e. not (signals c (p .outcome) .0 e))
 
   no-fence : emits c (p .outcome) ≡ false → fenceOf (emits c (p .outcome)) (slotOf d (c .rdst)) ≡ 0
-  unfolding fenceOf either
+  unfolding fenceOf
   no-fence e = rw e
 
   no-signal : emits c (p .outcome) ≡ false → (n : ℕ) → slotOf (deviceAfter d q c p) n ≡ slotOf d n

@@ -1,15 +1,15 @@
 -- What a turn that serves a ring does to the cursors, and that it takes one command.
 -- Assumes nothing.
+use mathlib.Core.Bool.{cond}
 use mathlib.Core.Path.{_≡_, refl, ap}
 use Prim.Native.Nat.{ℕ, _+_}
 use native.Mathlib.Omega.{arith}
 use lib.Dec.{eqb}
-use Rattle.words.specs.Choice.{either}
 use Rattle.state.specs.declared.device.Device.{Device}
 use Rattle.state.specs.declared.refusal.Verdict.the-variants.{Sound}
 use Rattle.state.specs.declared.ready.Picked.the-variants.{Ring as RingOf}
 use Rattle.state.specs.Device.{Shaped, ringOf}
-use Rattle.device.specs.Answer.{answerNumber, valuesOf}
+use Rattle.device.specs.Answer.{valuesOf}
 use Rattle.device.specs.Turn.{Call, ringAfter, finished, reportOf, servedOf, verdictOn, pickIn}
 use Rattle.device.proofs.Untaken.{served-ring, other-ring}
 use Rattle.demands.specs.Calls.{headIn}
@@ -30,6 +30,6 @@ module _ (d : Device) (call : Call) (r : ℕ) where
   served-others n other = ap (λ x. x .cursor) (other-ring d r (headIn d call r) (workIn d call r .performed) n other)
 
   -- one command is taken
-  pub served-is : (n : ℕ) → served (servedIn d call r .turned .answer) n ≡ either (eqb n r) 1 0
-  unfolding servedOf finished reportOf served answerNumber valuesOf
+  pub served-is : (n : ℕ) → served (servedIn d call r .turned .answer) n ≡ cond (eqb n r) 1 0
+  unfolding servedOf finished reportOf served valuesOf
   served-is n = refl

@@ -1,7 +1,7 @@
 -- A device stays sound, so a call on its own memory is refused only for what it lends.
 -- Assumes nothing.
 use mathlib.Core.Path.{_≡_, refl, sym, ap, _∙_}
-use mathlib.Core.Bool.{true, false}
+use mathlib.Core.Bool.{Bool, true, false, cond}
 use mathlib.Core.List.{[], _∷_}
 use Prim.Native.Nat.{ℕ, _+_, _≤_, _<_}
 use native.Mathlib.Omega.{arith}
@@ -9,10 +9,9 @@ use lib.Dec.{leb, lit≤, lit<}
 use lib.ListN.{length}
 use borrow.Author.Tests.{le-leb, lt-leb}
 use Rattle.memory.proofs.Window.{window-length}
-use Rattle.words.specs.Choice.{either}
-use Rattle.command.specs.Outcome.{outcomeNumber, isDone}
+use Rattle.command.specs.Outcome.{isDone}
 use Rattle.command.specs.Frame.{heldFault}
-use Rattle.words.proofs.Choices.{both-right, either-has}
+use Rattle.words.proofs.Choices.{both-right}
 use Rattle.work.proofs.Kept.{performed-frame}
 use Rattle.state.specs.declared.device.Window.{Window}
 use Rattle.state.specs.declared.device.Device.{Device}
@@ -20,9 +19,8 @@ use Rattle.state.specs.declared.refusal.Refusal.{Refusal}
 use Rattle.state.specs.declared.refusal.Verdict.{Verdict}
 use Rattle.state.specs.declared.refusal.Verdict.the-variants.{Sound, Refused}
 use Rattle.state.specs.declared.ready.Picked.the-variants.{Ring as RingOf}
-use Rattle.device.specs.declared.fresh.Fresh.{Fresh}
 use Rattle.state.specs.Device.{emptyWindow, freshDevice, ringOf, slotOf, limitOf}
-use Rattle.device.specs.Answer.{answerNumber, makingNumber}
+use Rattle.device.specs.Answer.{answerNumber}
 use Rattle.state.specs.Refusal.{refusalNumber, windowFits, memoryFits, windowsFit, ringSound, stateSound, verdictOf}
 use Rattle.device.specs.Fresh.{freshOf}
 use Rattle.device.specs.Turn.{Call, unchanged, ringAfter, reportOf, finished, servedOf, judgedOf, verdictOn, turnOf, ringIn, pickIn}
@@ -31,11 +29,12 @@ use Rattle.device.proofs.Verdicts.{all-four}
 use Rattle.device.proofs.Wholes.{whole-inside}
 use Rattle.demands.specs.Calls.{headIn, answerOf, leftBy, none, more}
 use Rattle.demands.specs.EachStep.{windowIn}
-use Rattle.demands.specs.Sound.{StaysSound, TurnStaysSound, RefusedForLent, SoundRefusals, FreshMakesSound, CallsStaySound, FreshStaysSound}
+use Rattle.demands.specs.Sound.{StaysSound, TurnStaysSound, RefusedForLent, SoundRefusals, FreshMakesSound, CallsStaySound, FreshStaysSound, MakesSound, lentRingsFit}
 use Rattle.device.proofs.Turns.{servedIn, turn-cases, picked-servable}
 use Rattle.demands.proofs.Turns.{workIn}
 use Rattle.demands.proofs.Devices.{after-marker, after-ring, after-windows}
 use Rattle.state.specs.Slots.{isFull}
+use Rattle.pack.specs.Kernels.{soundPack}
 
 -- a sound state has four sound rings
 rings-sound : (d : Device) → stateSound d ≡ true → (q : ℕ) → q < 4 → ringSound (ringOf d q) ≡ true
@@ -101,12 +100,12 @@ module _ (d : Device) (call : Call) where
 
   -- a refused call's number is its refusal's
   refused-number : {why : Refusal} → verdictOn d call ≡ Refused why → answerNumber (answerOf d call) ≡ refusalNumber why
-  unfolding turnOf judgedOf unchanged answerNumber
+  unfolding turnOf judgedOf unchanged
   refused-number e = ap (λ v. answerNumber (judgedOf d call v .turned .answer)) e
 
   -- one that is not refused is idle or served
   heard-number : verdictOn d call ≡ Sound → answerNumber (answerOf d call) ≤ 1
-  unfolding unchanged servedOf finished reportOf answerNumber
+  unfolding unchanged servedOf finished reportOf
   heard-number sound =
       turn-cases d call (λ a. answerNumber (a .turned .answer) ≤ 1)
       (λ why v. absurd (let z : _≡_ {A = ℕ} 0 1 = cc in omega arith))
@@ -116,20 +115,20 @@ module _ (d : Device) (call : Call) where
   -- what each number has where it may be given, a call's number has
   number-has : (P : ℕ → Type 0) → (windowsFit d (length (call .memory)) ≡ false → P 101) → (stateSound d ≡ false → P 102)
       → P 103 → P 104 → P 105 → ((n : ℕ) → n ≤ 1 → P n) → P (answerNumber (answerOf d call))
-  unfolding verdictOn verdictOf refusalNumber
+  unfolding verdictOn verdictOf
   number-has P memory state rings pipe pack heard =
       go (verdictOn d call) refl
-      (either-has (Numbers P) _
-      (λ e. either-has (Numbers P) _
-      (λ e. either-has (Numbers P) _
-      (λ e. either-has (Numbers P) _
-      (λ e. either-has (Numbers P) _ (λ e. heard)
-      (λ e. pack))
-      (λ e. pipe))
-      (λ e. rings))
-      state)
-      memory)
+      (each (windowsFit d (length (call .memory))) (stateSound d) (lentRingsFit d call) (leb 1020 (length (call .pipe))) (soundPack (call .pack)) refl refl)
     where
+      each : (m s r p k : Bool) → windowsFit d (length (call .memory)) ≡ m → stateSound d ≡ s
+          → Numbers P (cond m (cond s (cond r (cond p (cond k Sound (Refused Refusal.Pack)) (Refused Refusal.Pipe)) (Refused Refusal.Rings)) (Refused Refusal.State)) (Refused Refusal.Memory))
+      each true true true true true em es = heard
+      each true true true true false em es = pack
+      each true true true false k em es = pipe
+      each true true false p k em es = rings
+      each true false r p k em es = state es
+      each false s r p k em es = memory em
+
       go : (v : Verdict) → verdictOn d call ≡ v → Numbers P v → P (answerNumber (answerOf d call))
       go Sound e numbers = numbers _ (heard-number e)
       go (Refused why) e numbers = rw (refused-number e) numbers
@@ -151,7 +150,7 @@ module _ (d : Device) (call : Call) where
   }
 
   refused-for-lent : stateSound d ≡ true → windowsFit d (length (call .memory)) ≡ true → RefusedForLent d call
-  unfolding verdictOn verdictOf either refusalNumber
+  unfolding verdictOn verdictOf
   refused-for-lent state fits = record {
     rings = λ no. refused-number {why = Refusal.Rings} (rw (fits, state, no));
     pipe = λ yes short. refused-number {why = Refusal.Pipe} (rw (fits, state, yes, lt-leb 1020 (length (call .pipe)) short));
@@ -168,7 +167,7 @@ unfolding SoundRefusals
 sound-refusals d call = refused-for-lent d call
 
 fresh-sound : (w0 w1 w2 w3 : Window) → stateSound (freshDevice w0 w1 w2 w3) ≡ true
-unfolding freshDevice ringOf stateSound ringSound heldFault outcomeNumber
+unfolding freshDevice ringOf stateSound ringSound heldFault
 fresh-sound w0 w1 w2 w3 = refl
 
 fresh-fits : (memory : ℕ) (w0 w1 w2 w3 : Window) → windowsFit (freshDevice w0 w1 w2 w3) memory ≡ memoryFits memory w0 w1 w2 w3
@@ -181,16 +180,20 @@ unfolding memoryFits windowFits
 empty-fit n short = rw (le-leb n 1048576 short, le-leb 0 n (omega arith))
 
 pub fresh-makes-sound : FreshMakesSound
-unfolding FreshMakesSound freshOf makingNumber refusalNumber
-fresh-makes-sound memory w0 w1 w2 w3 = record {
-  state = either-has (λ (f : Fresh). stateSound (f .device) ≡ true) _ (λ e. fresh-sound w0 w1 w2 w3) (λ e. fresh-sound _ _ _ _);
-  windows = either-has (λ (f : Fresh). makingNumber (f .answer) ≡ 0 → windowsFit (f .device) memory ≡ true) _
-      (λ fits made. fresh-fits memory w0 w1 w2 w3 ∙ fits)
-      (λ e made. absurd (omega arith));
-  empty = either-has (λ (f : Fresh). makingNumber (f .answer) ≡ 101 → (n : ℕ) → n ≤ 1048576 → windowsFit (f .device) n ≡ true) _
-      (λ e made. absurd (omega arith))
-      (λ e refused n short. fresh-fits n _ _ _ _ ∙ empty-fit n short);
-}
+unfolding FreshMakesSound freshOf
+fresh-makes-sound memory w0 w1 w2 w3 = go (memoryFits memory w0 w1 w2 w3) refl
+  where
+    go : (b : Bool) → memoryFits memory w0 w1 w2 w3 ≡ b → MakesSound memory w0 w1 w2 w3
+    go true fits = record {
+      state = rw fits (fresh-sound w0 w1 w2 w3);
+      windows = λ made. rw fits (fresh-fits memory w0 w1 w2 w3 ∙ fits);
+      empty = λ refused n short. absurd (let z : _≡_ {A = ℕ} 0 101 = rw fits at refused in omega arith);
+    }
+    go false unfit = record {
+      state = rw unfit (fresh-sound emptyWindow emptyWindow emptyWindow emptyWindow);
+      windows = λ made. absurd (let z : _≡_ {A = ℕ} 101 0 = rw unfit at made in omega arith);
+      empty = λ refused n short. rw unfit (fresh-fits n emptyWindow emptyWindow emptyWindow emptyWindow ∙ empty-fit n short);
+    }
 
 pub calls-stay-sound : CallsStaySound
 unfolding CallsStaySound

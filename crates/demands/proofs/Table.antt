@@ -18,15 +18,13 @@ use Rattle.state.specs.Device.{freshDevice, ringOf, slotOf, withRing, withSlots
 use Rattle.state.specs.Slots.{emittedIn}
 use Rattle.state.specs.Refusal.{windowFits, memoryFits, windowsFit, ringSound, stateSound, ringFits, ringsFit, verdictOf}
 use Rattle.state.specs.Ready.{readyWith, readyWhere, readyAt, nextRing, seek, bytesOfRing, pickOf}
-use Rattle.device.specs.Answer.{answerNumber, valuesOf}
+use Rattle.device.specs.Answer.{valuesOf}
 use Rattle.device.specs.Turn.{unchanged, fenceOf, emitTo, ringAfter, deviceAfter, reportOf, finished, servedOf, pickedOf, judgedOf, verdictOn, turnOf}
-use Rattle.words.specs.Choice.{either}
 use Rattle.command.specs.Table.{rowOf}
 use Rattle.command.specs.Header.{waitSize, payloadSize, targetAt, commandAt, isWhole}
-use Rattle.command.specs.Outcome.{outcomeNumber}
 use Rattle.command.specs.Faults.{unknownOpcode, wrongPayloadBit, noSuchSlot, headerFault}
-use Rattle.command.specs.Frame.{frameMisaligned, frameUnfit, frameFault, heldFault, strideOf}
-use Rattle.work.specs.Shape.{isRectangle, sizeOf, widthOf, heightOf, tooNarrow, endOf}
+use Rattle.command.specs.Frame.{frameMisaligned, frameUnfit, frameFault, heldFault}
+use Rattle.work.specs.Shape.{isRectangle, sizeOf, widthOf, heightOf, endOf, tooNarrow}
 use Rattle.work.specs.Checks.{slotFault, misaligned, unframed, outside, unfitFrame, outOfRange, unfitDispatch, checkOf}
 use Rattle.command.specs.Report.{emits, interrupts, wordsRead}
 use Rattle.work.specs.Work.{leaves, ranOutcome, dispatchedBy, afterDispatch, heldBy, workOf}
@@ -43,7 +41,7 @@ unfolding afterWord started startRegisters executed decoded opOf vectorOf unused
 vadd = (refl, refl)
 
 pub table : Table
-unfolding answerNumber valuesOf colored freshDevice limitOf ringOf slotOf withRing withSlots emittedIn withMarker windowFits memoryFits windowsFit ringSound stateSound ringFits ringsFit verdictOf readyWith readyWhere readyAt nextRing seek bytesOfRing pickOf unchanged fenceOf emitTo ringAfter deviceAfter reportOf finished servedOf pickedOf judgedOf verdictOn turnOf either rowOf waitSize payloadSize targetAt commandAt isWhole outcomeNumber unknownOpcode wrongPayloadBit noSuchSlot headerFault frameMisaligned frameUnfit frameFault heldFault strideOf isRectangle sizeOf widthOf heightOf tooNarrow endOf slotFault misaligned unframed outside unfitFrame outOfRange unfitDispatch checkOf emits interrupts wordsRead leaves ranOutcome dispatchedBy afterDispatch heldBy workOf orElse faultOf guarded performedOf after halfAt wordAt withByte withHalf withWord rectangleEnd filledRow filled windowOf putBack kernelCount firstWord kernelWords codeCount liesInCode allLie soundPack kernelOf
+unfolding valuesOf colored freshDevice limitOf ringOf slotOf withRing withSlots emittedIn withMarker windowFits memoryFits windowsFit ringSound stateSound ringFits ringsFit verdictOf readyWith readyWhere readyAt nextRing seek bytesOfRing pickOf unchanged fenceOf emitTo ringAfter deviceAfter reportOf finished servedOf pickedOf judgedOf verdictOn turnOf rowOf waitSize payloadSize targetAt commandAt isWhole unknownOpcode wrongPayloadBit noSuchSlot headerFault frameMisaligned frameUnfit frameFault heldFault isRectangle sizeOf widthOf heightOf tooNarrow endOf slotFault misaligned unframed outside unfitFrame outOfRange unfitDispatch checkOf emits interrupts wordsRead leaves ranOutcome dispatchedBy afterDispatch heldBy workOf orElse faultOf guarded performedOf after halfAt wordAt withByte withHalf withWord rectangleEnd filledRow filled windowOf putBack kernelCount firstWord kernelWords codeCount liesInCode allLie soundPack kernelOf
 table = record {
   p1 = ((refl, refl), refl);
   p2 = (refl, refl);

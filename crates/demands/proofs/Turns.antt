@@ -14,7 +14,7 @@ use Rattle.device.specs.declared.turn.Report.{Report}
 use Rattle.device.specs.declared.turn.Answer.{Answer}
 use Rattle.device.specs.declared.turn.Answer.the-variants.{Refused as RefusedFor, Idle, Served}
 use Rattle.state.specs.Device.{ringOf, slotOf, limitOf}
-use Rattle.device.specs.Answer.{answerNumber, valuesOf}
+use Rattle.device.specs.Answer.{valuesOf}
 use Rattle.device.specs.Turn.{Call, unchanged, reportOf, finished, servedOf, verdictOn, turnOf, ringIn, pickIn}
 use Rattle.demands.specs.Calls.{headIn, answerOf, numberIn, valuesIn, isRefused}
 use Rattle.device.proofs.Answers.{served-report}
@@ -68,5 +68,5 @@ served-as d call number =
 
 -- a served call is not refused
 pub served-heard : (d : Device) (call : Call) (r : ℕ) → isRefused (servedIn d call r .turned .answer) ≡ false
-unfolding servedOf finished reportOf isRefused answerNumber
+unfolding servedOf finished reportOf isRefused
 served-heard d call r = refl

@@ -1,12 +1,11 @@
 -- How far a ring is from the marker, and how a search walks there.
 -- Assumes nothing.
 use mathlib.Core.Path.{_≡_, refl}
-use mathlib.Core.Bool.{Bool, true, false}
+use mathlib.Core.Bool.{Bool, true, false, cond}
 use Prim.Native.Nat.{ℕ, zero, suc, _≤_, _<_}
 use native.Mathlib.Nat.{not-suc-le-zero, le-of-suc-le-suc}
 use native.Mathlib.Omega.{arith}
 use lib.Dec.{lit<}
-use Rattle.words.specs.Choice.{either}
 use Rattle.state.specs.declared.ready.Picked.the-variants.{Ring}
 use Rattle.state.specs.Ready.{nextRing, seek}
 use Rattle.device.proofs.Verdicts.{each-of-four}
@@ -30,19 +29,19 @@ walk-rest (suc i) (suc j) m h = let r = walk-rest i j (nextRing m) (le-of-suc-le
 
 -- a ready ring on the way: the search stops there or before
 pub seek-reaches : (f : ℕ → Bool) (n j m : ℕ) → j < n → f (walk j m) ≡ true → (i : ℕ) × (i ≤ j) × (seek f m n ≡ Ring (walk i m))
-unfolding walk seek either
+unfolding walk seek
 seek-reaches f zero j m h e = absurd (not-suc-le-zero h)
 seek-reaches f (suc n) zero m h e = (zero, omega arith, rw e)
 seek-reaches f (suc n) (suc j) m h e = step (f m) refl (seek-reaches f n j (nextRing m) (le-of-suc-le-suc h) e)
   where
     step : (b : Bool) → f m ≡ b → (i : ℕ) × (i ≤ j) × (seek f (nextRing m) n ≡ Ring (walk i (nextRing m)))
-        → (i : ℕ) × (i ≤ suc j) × (either (f m) (Ring m) (seek f (nextRing m) n) ≡ Ring (walk i m))
+        → (i : ℕ) × (i ≤ suc j) × (cond (f m) (Ring m) (seek f (nextRing m) n) ≡ Ring (walk i m))
     step true here r = (zero, omega arith, rw here)
     step false on r = (suc (r .0), omega arith, rw on (r .2))
 
 -- a ring is at most three further than any other
 pub distance : (m q : ℕ) → m < 4 → q < 4 → (j : ℕ) × (j < 4) × (walk j m ≡ q)
-unfolding walk nextRing either
+unfolding walk nextRing
 distance m q hm hq =
     each-of-four (λ m. (q : ℕ) → q < 4 → (j : ℕ) × (j < 4) × (walk j m ≡ q))
     (each-of-four (λ q. (j : ℕ) × (j < 4) × (walk j 0 ≡ q)) (0, lit< tt, refl) (1, lit< tt, refl) (2, lit< tt, refl) (3, lit< tt, refl))

@@ -1,7 +1,7 @@
 -- What the demands rest on of a command's work.
 -- Assumes nothing.
 use mathlib.Core.Path.{_≡_, refl, sym, ap, _∙_}
-use mathlib.Core.Bool.{Bool, true, false, _&&_}
+use mathlib.Core.Bool.{Bool, true, false, _&&_, cond}
 use mathlib.Core.List.{List}
 use mathlib.Core.Logic.{inr}
 use Prim.Native.Nat.{ℕ, _+_, _*_, _≤_}
@@ -12,7 +12,6 @@ use Rattle.memory.proofs.Others.{transferred-other}
 use Rattle.command.specs.declared.header.Command.{Command}
 use Rattle.command.specs.declared.frame.Frame.{Frame}
 use Rattle.command.specs.declared.outcome.Outcome.{Outcome}
-use Rattle.words.specs.Choice.{either}
 use Rattle.command.specs.Flags.{emitBit}
 use Rattle.command.specs.Faults.{headerFault}
 use Rattle.work.specs.Checks.{slotFault}
@@ -32,12 +31,11 @@ use Rattle.demands.specs.Reports.{SetsFrame}
 
 -- a full slot is a fault of a command with its emit bit set
 full-faulty : (c : Command) (full : Bool) → emitBit (c .flags) ≡ true → full ≡ true → isDone (slotFault c full) ≡ false
-unfolding slotFault either outcomeNumber
+unfolding slotFault
 full-faulty c full bit is = rw (bit, is)
 
 -- any other slot is not
-not-full : (b : Bool) → isDone (either (b && false) Outcome.SlotFull Outcome.Done) ≡ true
-unfolding either outcomeNumber
+not-full : (b : Bool) → isDone (cond (b && false) Outcome.SlotFull Outcome.Done) ≡ true
 not-full true = refl
 not-full false = refl
 
@@ -51,7 +49,7 @@ and-true false = refl
 
 -- what a READ_MEM reads
 read-words : (c : Command) → c .opcode ≡ readMem → wordsRead c Outcome.Done ≡ c .len
-unfolding wordsRead either outcomeNumber
+unfolding wordsRead
 read-words c e = rw e
 
 module _ (c : Command) (full : Bool) (ring window : List ℕ) (frame : Frame) (pack pipe : List ℕ) (limit : ℕ) where
@@ -123,7 +121,7 @@ module _ (c : Command) (full : Bool) (ring window : List ℕ) (frame : Frame) (p
   FrameKept l = (SetsFrame c (outcomeNumber (l .performed .outcome)) → ⊥) → l .performed .frame ≡ frame
 
   pub frame-kept : FrameKept work
-  unfolding leaves afterDispatch outcomeNumber
+  unfolding leaves afterDispatch
   frame-kept =
       performed-has c full ring window frame pack pipe limit FrameKept
       (λ fine.

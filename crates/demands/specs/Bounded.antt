@@ -1,11 +1,10 @@
 -- Turns over unchanging rings come to an end: each served turn takes at least 16 bytes of a ring.
 use Prim.Native.Nat.{ℕ, _+_, _*_, _≤_, _<_}
 use mathlib.Core.Path.{_≡_}
-use mathlib.Core.Bool.{_&&_}
+use mathlib.Core.Bool.{_&&_, cond}
 use mathlib.Core.List.{List, [], _∷_}
 use lib.Dec.{eqb}
 use lib.ListN.{length}
-use Rattle.words.specs.Choice.{either}
 use Rattle.state.specs.declared.device.Window.{Window}
 use Rattle.state.specs.declared.device.Device.{Device}
 use Rattle.device.specs.declared.turn.Answer.{Answer}
@@ -21,7 +20,7 @@ Lends R call = (q : ℕ) → q < 4 → ringIn call q ≡ R q
 
 -- 1 if the answer serves ring q, else 0
 unfoldable pub served : Answer → ℕ → ℕ
-served answer q = either (eqb (answerNumber answer) 0 && eqb q (valuesOf answer .ring)) 1 0
+served answer q = cond (eqb (answerNumber answer) 0 && eqb q (valuesOf answer .ring)) 1 0
 
 -- how many commands of ring q the calls take
 unfoldable pub taken : Device → List Call → ℕ → ℕ

@@ -1,11 +1,10 @@
 -- Calls one after another, each starting from the device that the last one left.
 use Prim.Native.Nat.{ℕ, _+_}
 use mathlib.Core.Path.{_≡_}
-use mathlib.Core.Bool.{Bool, false}
+use mathlib.Core.Bool.{Bool, false, cond}
 use mathlib.Core.List.{List, [], _∷_}
 use lib.Dec.{leb}
 use Rattle.command.specs.declared.header.Command.{Command}
-use Rattle.words.specs.Choice.{either}
 use Rattle.command.specs.Header.{commandAt}
 use Rattle.state.specs.declared.device.Device.{Device}
 use Rattle.device.specs.declared.turn.Answer.{Answer}
@@ -49,7 +48,7 @@ pub record ServesRing (q : ℕ) (answer : Answer) : Type 0 where
 -- how many of the calls are not refused
 unfoldable pub heard : Device → List Call → ℕ
 heard d [] = 0
-heard d (call ∷ calls) = either (isRefused (answerOf d call)) 0 1 + heard (leftBy d call) calls
+heard d (call ∷ calls) = cond (isRefused (answerOf d call)) 0 1 + heard (leftBy d call) calls
 
 -- each call, with the device that it starts from, is so
 pub data EachCall (P : Device → Call → Type 0) : Device → List Call → Type 0 where

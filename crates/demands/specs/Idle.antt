@@ -1,11 +1,10 @@
 -- Demand 3, second part: when the answer is idle, no order of starts gets further than the device did.
 use Prim.Native.Nat.{ℕ, zero, suc, _+_, _≤_, _<_}
 use mathlib.Core.Path.{_≡_}
-use mathlib.Core.Bool.{Bool, true, _&&_}
+use mathlib.Core.Bool.{Bool, true, _&&_, cond}
 use mathlib.Core.List.{List, [], _∷_}
 use lib.Dec.{eqb}
 use Rattle.command.specs.declared.header.Command.{Command}
-use Rattle.words.specs.Choice.{either}
 use Rattle.command.specs.Flags.{emitBit}
 use Rattle.command.specs.Faults.{headerFault}
 use Rattle.command.specs.Header.{commandAt, isWhole}
@@ -35,7 +34,7 @@ isEmitting c = emitBit (c .flags) && isDone (headerFault c)
 -- how many of a ring's first n commands emit to a slot: a plain count
 unfoldable pub emitsIn : List ℕ → ℕ → ℕ → ℕ
 emitsIn b slot zero = 0
-emitsIn b slot (suc n) = emitsIn b slot n + either (isEmitting (nth b n) && eqb (nth b n .rdst) slot) 1 0
+emitsIn b slot (suc n) = emitsIn b slot n + cond (isEmitting (nth b n) && eqb (nth b n .rdst) slot) 1 0
 
 -- how many commands that emit to a slot have been started, n q of each ring q
 abbrev pub countOf : (ℕ → List ℕ) → (ℕ → ℕ) → ℕ → ℕ
@@ -43,7 +42,7 @@ countOf R n slot = sumOf 4 (λ q. emitsIn (R q) slot (n q))
 
 -- one more of ring q
 unfoldable pub oneMore : (ℕ → ℕ) → ℕ → ℕ → ℕ
-oneMore n q r = either (eqb r q) (suc (n r)) (n r)
+oneMore n q r = cond (eqb r q) (suc (n r)) (n r)
 
 -- an order in which n q commands of each ring q start: nothing has started, or
 -- one more has, which is whole, and ready against the count of those started before it

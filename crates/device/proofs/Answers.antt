@@ -15,7 +15,6 @@ use Rattle.state.specs.Refusal.{refusalNumber}
 use Rattle.device.specs.Answer.{answerNumber}
 
 pub refusal-least : (why : Refusal) → 101 ≤ refusalNumber why
-unfolding refusalNumber
 refusal-least Memory = omega arith
 refusal-least State = omega arith
 refusal-least Rings = omega arith
@@ -27,13 +26,11 @@ refusal-not-0 why = ne-eqb (refusalNumber why) 0 (λ e. omega (arith, refusal-le
 
 -- 0 is a served turn's number alone, and 1 an idle one's
 pub served-report : (a : Answer) → answerNumber a ≡ 0 → (report : Report) × (a ≡ Served report)
-unfolding answerNumber
 served-report (Refused why) e = absurd (omega (arith, refusal-least why))
 served-report Idle e = absurd (omega arith)
 served-report (Served report) e = (report, refl)
 
 pub idle-answer : (a : Answer) → answerNumber a ≡ 1 → a ≡ Idle
-unfolding answerNumber
 idle-answer (Refused why) e = absurd (omega (arith, refusal-least why))
 idle-answer Idle e = refl
 idle-answer (Served report) e = absurd (omega arith)

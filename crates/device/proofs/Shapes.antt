@@ -1,14 +1,13 @@
 -- A turn leaves four rings and 64 slots, and a fresh device has them; an emit leaves numbers that fit.
 -- Assumes nothing.
 use mathlib.Core.Path.{_≡_, refl, ap, _∙_}
-use mathlib.Core.Bool.{Bool, true, false}
+use mathlib.Core.Bool.{Bool, true, false, cond}
 use mathlib.Core.List.{List, [], _∷_}
 use Prim.Native.Nat.{ℕ, zero, suc, _^_, _<_}
 use native.Mathlib.Omega.{arith}
 use lib.ListN.{getD, set, length-set}
 use Rattle.command.specs.declared.header.Command.{Command}
 use Rattle.work.specs.declared.work.Performed.{Performed}
-use Rattle.words.specs.Choice.{either}
 use Rattle.state.specs.declared.device.Device.{Device}
 use Rattle.state.specs.declared.device.Window.{Window}
 use Rattle.state.specs.declared.refusal.Refusal.the-variants.{Memory}
@@ -22,7 +21,7 @@ use Rattle.device.specs.Turn.{Call, emitTo, deviceAfter, finished, serve
 use Rattle.device.proofs.Turns.{turn-cases}
 
 after-emit : (b : Bool) (d : Device) (n : ℕ) → Shaped d → Shaped (emitTo b d n)
-unfolding emitTo either withSlots emittedIn
+unfolding emitTo withSlots emittedIn
 after-emit true d n s = record { rings = s .rings; slots = length-set (d .slots) n _ ∙ s .slots }
 after-emit false d n s = s
 
@@ -37,7 +36,7 @@ put-each P other (x ∷ xs) (suc q) v (suc n) new old = put-each P other xs q v 
 
 -- so an emit leaves numbers that fit
 pub emit-fits : (b : Bool) (d : Device) (n : ℕ) → SlotsFit d → SlotsFit (emitTo b d n)
-unfolding emitTo either withSlots emittedIn slotOf SlotsFit
+unfolding emitTo withSlots emittedIn slotOf SlotsFit
 emit-fits true d n fit m = put-each (λ x. x < 2 ^ 32) 0 (d .slots) n (emitted (getD (d .slots) n 0)) m (λ e. omega arith) (fit m)
 emit-fits false d n fit m = fit m
 
@@ -58,9 +57,9 @@ unfolding freshDevice
 fresh-shaped w0 w1 w2 w3 = record { rings = refl; slots = refl }
 
 pub made-shaped : (memory : ℕ) (w0 w1 w2 w3 : Window) → Shaped (freshOf memory w0 w1 w2 w3 .device)
-unfolding freshOf either
+unfolding freshOf
 made-shaped memory w0 w1 w2 w3 = go (memoryFits memory w0 w1 w2 w3)
   where
-    go : (b : Bool) → Shaped (either {A = Fresh} b (record { device = freshDevice w0 w1 w2 w3; answer = Made }) (record { device = freshDevice emptyWindow emptyWindow emptyWindow emptyWindow; answer = Refuses Memory }) .device)
+    go : (b : Bool) → Shaped (cond {A = Fresh} b (record { device = freshDevice w0 w1 w2 w3; answer = Made }) (record { device = freshDevice emptyWindow emptyWindow emptyWindow emptyWindow; answer = Refuses Memory }) .device)
     go true = fresh-shaped w0 w1 w2 w3
     go false = fresh-shaped emptyWindow emptyWindow emptyWindow emptyWindow

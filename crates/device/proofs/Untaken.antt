@@ -12,7 +12,6 @@ use borrow.Author.Tests.{eqb-true, eqb-false}
 use native.Mathlib.Nat.{not-suc-le-zero}
 use Rattle.command.specs.declared.header.Command.{Command}
 use Rattle.work.specs.declared.work.Performed.{Performed}
-use Rattle.words.specs.Choice.{either}
 use Rattle.command.specs.Header.{commandAt}
 use Rattle.command.proofs.Sizes.{size-least}
 use Rattle.state.specs.declared.device.Device.{Device}
@@ -26,7 +25,7 @@ use Rattle.device.proofs.Turns.{turn-cases, picked-servable}
 
 -- an emit changes no ring
 emit-rings : (b : Bool) (d : Device) (n : ℕ) → emitTo b d n .rings ≡ d .rings
-unfolding emitTo either withSlots
+unfolding emitTo withSlots
 emit-rings true d n = refl
 emit-rings false d n = refl
 

@@ -1,7 +1,7 @@
 -- What a sound call is known to have, and so what a picked ring has.
 -- Assumes nothing.
 use mathlib.Core.Path.{_≡_, refl}
-use mathlib.Core.Bool.{Bool, true, false, _&&_}
+use mathlib.Core.Bool.{Bool, true, false, _&&_, cond}
 use mathlib.Core.List.{List}
 use Prim.Native.Nat.{ℕ, zero, suc, _+_, _%_, _≤_, _<_}
 use native.Mathlib.Omega.{arith}
@@ -9,12 +9,10 @@ use native.Mathlib.Nat.{le-of-suc-le-suc, not-suc-le-zero}
 use lib.ListN.{length}
 use lib.Dec.{leb, eqb}
 use borrow.Author.Tests.{leb-true}
-use Rattle.words.specs.Choice.{either}
 use Rattle.words.proofs.Choices.{both-left, both-right}
 use Rattle.pack.specs.Kernels.{soundPack}
 use Rattle.state.specs.declared.device.Device.{Device}
 use Rattle.state.specs.declared.refusal.Refusal.{Refusal}
-use Rattle.state.specs.declared.refusal.Verdict.{Verdict}
 use Rattle.state.specs.declared.refusal.Verdict.the-variants.{Sound, Refused}
 use Rattle.state.specs.declared.ready.Picked.{Picked}
 use Rattle.state.specs.declared.ready.Picked.the-variants.{Ring}
@@ -24,11 +22,16 @@ use Rattle.state.specs.Ready.{readyWhere, readyAt, nextRing, seek, bytesOfRing,
 use Rattle.device.specs.Turn.{Servable}
 use Rattle.state.proofs.Seeks.{next-below}
 
--- a test that a sound call has passed
-passed : (b : Bool) (x : Verdict) (why : Refusal) → either b x (Refused why) ≡ Sound → (b ≡ true) × (x ≡ Sound)
-unfolding either
-passed true x why e = (refl, e)
-passed false x why e = absurd (let z : _≡_ {A = ℕ} 0 1 = cc in omega arith)
+-- a sound call has passed each test
+all-passed : (memory state rings pipe pack : Bool)
+    → cond memory (cond state (cond rings (cond pipe (cond pack Sound (Refused Refusal.Pack)) (Refused Refusal.Pipe)) (Refused Refusal.Rings)) (Refused Refusal.State)) (Refused Refusal.Memory) ≡ Sound
+    → (memory ≡ true) × (state ≡ true) × (rings ≡ true) × (pipe ≡ true) × (pack ≡ true)
+all-passed true true true true true e = (refl, refl, refl, refl, refl)
+all-passed true true true true false e = absurd (let z : _≡_ {A = ℕ} 0 1 = cc in omega arith)
+all-passed true true true false pack e = absurd (let z : _≡_ {A = ℕ} 0 1 = cc in omega arith)
+all-passed true true false pipe pack e = absurd (let z : _≡_ {A = ℕ} 0 1 = cc in omega arith)
+all-passed true false rings pipe pack e = absurd (let z : _≡_ {A = ℕ} 0 1 = cc in omega arith)
+all-passed false state rings pipe pack e = absurd (let z : _≡_ {A = ℕ} 0 1 = cc in omega arith)
 
 -- what holds of the numbers 0 to 3 holds of every number below 4
 pub each-of-four : (P : ℕ → Type 0) → P 0 → P 1 → P 2 → P 3 → (q : ℕ) → q < 4 → P q
@@ -49,8 +52,7 @@ all-four P e =
 
 -- a picked ring is one of four and ready
 found-step : (f : ℕ → Bool) (b : Bool) (p q : ℕ) (rest : Picked) → f p ≡ b → p < 4 → (rest ≡ Ring q → (q < 4) × (f q ≡ true))
-    → either b (Ring p) rest ≡ Ring q → (q < 4) × (f q ≡ true)
-unfolding either
+    → cond b (Ring p) rest ≡ Ring q → (q < 4) × (f q ≡ true)
 found-step f true p q rest fp h further e = let same : p ≡ q = cc in (rw (← same) h, rw (← same) fp)
 found-step f false p q rest fp h further e = further e
 
@@ -61,24 +63,25 @@ found f (suc n) p q h e = found-step f (f p) p q (seek f (nextRing p) n) refl h 
 
 module _ (d : Device) (memory : ℕ) (r0 r1 r2 r3 : List ℕ) (pipe : ℕ) (pack : List ℕ)
     (sound : verdictOf d memory (length r0) (length r1) (length r2) (length r3) pipe pack ≡ Sound) where
-  after-memory : (windowsFit d memory ≡ true) × (either (stateSound d) (either (ringsFit d (length r0) (length r1) (length r2) (length r3)) (either (leb 1020 pipe) (either (soundPack pack) Sound (Refused Refusal.Pack)) (Refused Refusal.Pipe)) (Refused Refusal.Rings)) (Refused Refusal.State) ≡ Sound)
+  tests : (windowsFit d memory ≡ true) × (stateSound d ≡ true) × (ringsFit d (length r0) (length r1) (length r2) (length r3) ≡ true)
+      × (leb 1020 pipe ≡ true) × (soundPack pack ≡ true)
   unfolding verdictOf
-  after-memory = passed _ _ _ sound
+  tests = all-passed (windowsFit d memory) (stateSound d) (ringsFit d (length r0) (length r1) (length r2) (length r3)) (leb 1020 pipe) (soundPack pack) sound
 
   pub windows-fit : windowsFit d memory ≡ true
-  windows-fit = after-memory .0
+  windows-fit = tests .0
 
   pub state-sound : stateSound d ≡ true
-  state-sound = passed _ _ _ (after-memory .1) .0
+  state-sound = tests .1
 
   pub rings-fit : ringsFit d (length r0) (length r1) (length r2) (length r3) ≡ true
-  rings-fit = passed _ _ _ (passed _ _ _ (after-memory .1) .1) .0
+  rings-fit = tests .2
 
   pub pipe-room : 1020 ≤ pipe
-  pipe-room = leb-true 1020 pipe (passed _ _ _ (passed _ _ _ (passed _ _ _ (after-memory .1) .1) .1) .0)
+  pipe-room = leb-true 1020 pipe (tests .3)
 
   pub pack-sound : soundPack pack ≡ true
-  pack-sound = passed _ _ _ (passed _ _ _ (passed _ _ _ (passed _ _ _ (after-memory .1) .1) .1) .1) .0
+  pack-sound = tests .4
 
   pub steady : Steady d
   unfolding stateSound ringSound
@@ -98,7 +101,7 @@ module _ (d : Device) (memory : ℕ) (r0 r1 r2 r3 : List ℕ) (pipe : ℕ) (pack
       (all-four (λ p. windowFits memory (ringOf d p .window)) (both-right (leb memory 1048576) _ windows-fit) q h))
 
   ring-short : (q : ℕ) → q < 4 → length (bytesOfRing q r0 r1 r2 r3) ≤ 65536
-  unfolding ringsFit ringFits bytesOfRing either
+  unfolding ringsFit ringFits bytesOfRing
   ring-short q h =
       leb-true _ _ (both-left _ _ (all-four (λ p. ringFits (ringOf d p) (length (bytesOfRing p r0 r1 r2 r3))) rings-fit q h))
 

@@ -9,7 +9,7 @@ use Rattle.device.specs.declared.turn.Answer.the-variants.{Refused, Idle
 use Rattle.state.specs.Refusal.{refusalNumber}
 
 -- a turn's number: 0 served, 1 idle, or the refusal's
-unfoldable pub answerNumber : Answer → ℕ
+abbrev pub answerNumber : Answer → ℕ
 answerNumber (Refused why) = refusalNumber why
 answerNumber Idle = 1
 answerNumber (Served r) = 0
@@ -33,6 +33,6 @@ valuesOf Idle = noValues
 valuesOf (Served r) = record { ring = r .ring; outcome = outcomeNumber (r .outcome); fence = r .fence; words = r .words; irq = r .irq }
 
 -- making a fresh device: 0 made, or the refusal's number
-unfoldable pub makingNumber : Making → ℕ
+abbrev pub makingNumber : Making → ℕ
 makingNumber Made = 0
 makingNumber (RefusedToMake why) = refusalNumber why

@@ -1,14 +1,13 @@
 -- A turn.
 use Prim.Native.Nat.{ℕ, _+_, _≤_, _<_}
 use mathlib.Core.Path.{_≡_}
-use mathlib.Core.Bool.{Bool, true}
+use mathlib.Core.Bool.{Bool, true, cond}
 use mathlib.Core.List.{List}
 use lib.ListN.{length}
 use Rattle.memory.specs.Window.{windowOf, putBack}
 use Rattle.command.specs.declared.header.Command.{Command}
 use Rattle.command.specs.declared.frame.Frame.{Frame}
 use Rattle.work.specs.declared.work.Performed.{Performed}
-use Rattle.words.specs.Choice.{either}
 use Rattle.command.specs.Header.{commandAt, isWhole}
 use Rattle.work.specs.Perform.{performedOf}
 use Rattle.command.specs.Report.{emits, interrupts, wordsRead}
@@ -68,11 +67,11 @@ unchanged d call answer = record { turned = record { device = d; answer = answer
 
 -- the reported fence: the slot's new number, or 0
 unfoldable pub fenceOf : Bool → ℕ → ℕ
-fenceOf emitting slot = either emitting (emitted slot) 0
+fenceOf emitting slot = cond emitting (emitted slot) 0
 
 -- an emit changes its slot
 unfoldable pub emitTo : Bool → Device → ℕ → Device
-emitTo emitting d n = either emitting (withSlots d (emittedIn (d .slots) n)) d
+emitTo emitting d n = cond emitting (withSlots d (emittedIn (d .slots) n)) d
 
 -- a ring whose command is taken: its cursor moves past it
 unfoldable pub ringAfter : Ring → Command → Frame → Ring

@@ -14,7 +14,6 @@ use Rattle.job.specs.Section.{sectionAt}
 use Rattle.job.specs.Sections.{sectionsOf, ring0Of, ring1Of, ring2Of, ring3Of, memoryOf}
 use Rattle.job.proofs.Accepted.{checked}
 use Rattle.memory.specs.Window.{windowOf}
-use Rattle.words.specs.Choice.{either}
 use Rattle.state.specs.declared.device.Device.{Device}
 use Rattle.state.specs.Ready.{bytesOfRing}
 use Rattle.device.specs.Turn.{Call, ringIn}
@@ -33,7 +32,7 @@ memory-fits input job e =
 
 -- no more bytes are left than the rings have
 left-most : (d : Device) (call : Call) → untakenIn (ringIn call) d ≤ length (call .ring0) + length (call .ring1) + length (call .ring2) + length (call .ring3)
-unfolding untakenIn sumOf untakenOf bytesOfRing either
+unfolding untakenIn sumOf untakenOf bytesOfRing
 left-most d call = omega arith
 
 -- a part has no more bytes than its bounds say

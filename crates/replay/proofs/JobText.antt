@@ -9,7 +9,6 @@ use Rattle.device.specs.declared.fresh.Fresh.{Fresh}
 use Rattle.device.specs.declared.fresh.Making.the-variants.{Made, Refused as RefusedFresh}
 use Rattle.state.specs.declared.refusal.Refusal.{Refusal}
 use Rattle.state.specs.Refusal.{refusalNumber}
-use Rattle.device.specs.Answer.{makingNumber}
 use Rattle.device.specs.Fresh.{freshOf}
 use Rattle.device.specs.Turn.{callOf}
 use Rattle.job.specs.declared.parse.Parsed.the-variants.{Accepted, Refused}
@@ -49,5 +48,5 @@ module _ (input : List ℕ) where
       made-text e = rw (← same, e)
 
       pub unmade-text : {why : Refusal} → made .answer ≡ RefusedFresh why → jobText input job ≡ refusedLine (refusalNumber why)
-      unfolding jobText playedOn makingNumber
+      unfolding jobText playedOn
       unmade-text e = rw (← same, e)

@@ -12,7 +12,6 @@ use Rattle.device.specs.declared.turn.Answer.the-variants.{Served, Idle, Refuse
 use Rattle.device.specs.declared.turn.Report.{Report}
 use Rattle.state.specs.Device.{Shaped}
 use Rattle.state.specs.Refusal.{refusalNumber}
-use Rattle.device.specs.Answer.{answerNumber}
 use Rattle.device.specs.Turn.{Call, ringIn, turnOf}
 use Rattle.device.specs.Untaken.{untakenIn}
 use Rattle.device.proofs.Untaken.{served-takes}
@@ -55,5 +54,5 @@ module _ (turns : ℕ) (d : Device) (call : Call) (s : Shaped d) where
   idle-ends e = rw e
 
   pub refused-ends : (why : Refusal) → turnOf d call .turned .answer ≡ Refused why → allLines turns d call ≡ refusedLine (refusalNumber why)
-  unfolding allLines linesFrom linesOf answerNumber
+  unfolding allLines linesFrom linesOf
   refused-ends why e = rw e

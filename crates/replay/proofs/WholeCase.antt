@@ -13,10 +13,8 @@ use Rattle.device.specs.Untaken.{untakenOf, sumOf, untakenIn}
 use Rattle.device.specs.Fresh.{freshOf}
 use Rattle.device.specs.Answer.{valuesOf}
 use Rattle.device.specs.Turn.{unchanged, fenceOf, emitTo, ringAfter, deviceAfter, reportOf, finished, servedOf, pickedOf, judgedOf, verdictOn, turnOf}
-use Rattle.words.specs.Choice.{either}
 use Rattle.command.specs.Table.{rowOf}
 use Rattle.command.specs.Header.{waitSize, payloadSize, targetAt, commandAt, isWhole}
-use Rattle.command.specs.Outcome.{outcomeNumber}
 use Rattle.command.specs.Faults.{unknownOpcode, wrongPayloadBit, noSuchSlot, headerFault}
 use Rattle.command.specs.Frame.{heldFault}
 use Rattle.work.specs.Shape.{isRectangle}
@@ -32,5 +30,5 @@ use Rattle.replay.specs.WholeCase.{WholeCase}
 use Rattle.replay.proofs.JobText.{accepted-text}
 
 pub whole-case : WholeCase
-unfolding wholeCase bytesOf digits decimal lineOf turnLine idleLine freshDevice ringOf slotOf withRing withSlots emittedIn withMarker windowFits memoryFits windowsFit ringSound stateSound ringFits ringsFit verdictOf readyWith readyWhere readyAt nextRing seek bytesOfRing pickOf untakenOf sumOf untakenIn freshOf valuesOf unchanged fenceOf emitTo ringAfter deviceAfter reportOf finished servedOf pickedOf judgedOf verdictOn turnOf either rowOf waitSize payloadSize targetAt commandAt isWhole outcomeNumber unknownOpcode wrongPayloadBit noSuchSlot headerFault heldFault isRectangle slotFault misaligned unframed outside unfitFrame unfitDispatch checkOf emits wordsRead leaves workOf orElse faultOf guarded performedOf wordAt windowOf putBack kernelCount codeCount allLie soundPack linesOf linesFrom allLines emptyPipe firstCall freshFor playedOn jobText
+unfolding wholeCase bytesOf digits decimal lineOf turnLine idleLine freshDevice ringOf slotOf withRing withSlots emittedIn withMarker windowFits memoryFits windowsFit ringSound stateSound ringFits ringsFit verdictOf readyWith readyWhere readyAt nextRing seek bytesOfRing pickOf untakenOf sumOf untakenIn freshOf valuesOf unchanged fenceOf emitTo ringAfter deviceAfter reportOf finished servedOf pickedOf judgedOf verdictOn turnOf rowOf waitSize payloadSize targetAt commandAt isWhole unknownOpcode wrongPayloadBit noSuchSlot headerFault heldFault isRectangle slotFault misaligned unframed outside unfitFrame unfitDispatch checkOf emits wordsRead leaves workOf orElse faultOf guarded performedOf wordAt windowOf putBack kernelCount codeCount allLie soundPack linesOf linesFrom allLines emptyPipe firstCall freshFor playedOn jobText
 whole-case = rw (accepted-text wholeCase its-parts)

@@ -1,11 +1,10 @@
 -- Which ring is served.
 use Prim.Native.Nat.{ℕ, zero, suc, _+_, _≤_, _<_}
-use mathlib.Core.Bool.{Bool, not, _&&_, _||_}
+use mathlib.Core.Bool.{Bool, not, _&&_, _||_, cond}
 use mathlib.Core.List.{List}
 use lib.Dec.{ltb, eqb}
 use lib.ListN.{getD}
 use Rattle.command.specs.declared.header.Command.{Command}
-use Rattle.words.specs.Choice.{either}
 use Rattle.command.specs.Flags.{waitBit}
 use Rattle.command.specs.Faults.{headerFault}
 use Rattle.command.specs.Header.{commandAt, isWhole}
@@ -33,16 +32,16 @@ readyAt d q bytes = readyWhere (ringOf d q) (d .slots) bytes
 
 -- after 3 comes 0
 unfoldable pub nextRing : ℕ → ℕ
-nextRing q = either (ltb q 3) (q + 1) 0
+nextRing q = cond (ltb q 3) (q + 1) 0
 
 -- the first ready of n rings from q on
 unfoldable pub seek : (ℕ → Bool) → ℕ → ℕ → Picked
 seek ready q zero = Nobody
-seek ready q (suc n) = either (ready q) (Ring q) (seek ready (nextRing q) n)
+seek ready q (suc n) = cond (ready q) (Ring q) (seek ready (nextRing q) n)
 
 -- the bytes of ring q of four
 unfoldable pub bytesOfRing : ℕ → List ℕ → List ℕ → List ℕ → List ℕ → List ℕ
-bytesOfRing q r0 r1 r2 r3 = either (eqb q 0) r0 (either (eqb q 1) r1 (either (eqb q 2) r2 r3))
+bytesOfRing q r0 r1 r2 r3 = cond (eqb q 0) r0 (cond (eqb q 1) r1 (cond (eqb q 2) r2 r3))
 
 -- the first ready ring from the marker upward
 unfoldable pub pickOf : Device → List ℕ → List ℕ → List ℕ → List ℕ → Picked

@@ -1,9 +1,8 @@
 -- Whole calls that are refused, in this order and for nothing else.
 use Prim.Native.Nat.{ℕ, _+_, _%_}
-use mathlib.Core.Bool.{Bool, _&&_}
+use mathlib.Core.Bool.{Bool, _&&_, cond}
 use mathlib.Core.List.{List}
 use lib.Dec.{leb, eqb}
-use Rattle.words.specs.Choice.{either}
 use Rattle.command.specs.Outcome.{isDone}
 use Rattle.command.specs.Frame.{heldFault}
 use Rattle.pack.specs.Kernels.{soundPack}
@@ -17,7 +16,7 @@ use Rattle.state.specs.declared.refusal.Verdict.the-variants.{Sound, Ref
 use Rattle.state.specs.Device.{ringOf}
 
 -- the number of each refusal
-unfoldable pub refusalNumber : Refusal → ℕ
+abbrev pub refusalNumber : Refusal → ℕ
 refusalNumber Memory = 101
 refusalNumber State = 102
 refusalNumber Rings = 103
@@ -57,11 +56,11 @@ ringsFit d l0 l1 l2 l3 = ringFits (ringOf d 0) l0 && ringFits (ringOf d 1) l1 &&
 -- the verdict on a call, from the lengths of its memory, rings and pipe, and its pack
 unfoldable pub verdictOf : Device → ℕ → ℕ → ℕ → ℕ → ℕ → ℕ → List ℕ → Verdict
 verdictOf d memory l0 l1 l2 l3 pipe pack =
-    either (windowsFit d memory)
-    (either (stateSound d)
-    (either (ringsFit d l0 l1 l2 l3)
-    (either (leb 1020 pipe)
-    (either (soundPack pack) Sound
+    cond (windowsFit d memory)
+    (cond (stateSound d)
+    (cond (ringsFit d l0 l1 l2 l3)
+    (cond (leb 1020 pipe)
+    (cond (soundPack pack) Sound
     (Refused Pack))
     (Refused Pipe))
     (Refused Rings))

@@ -3,7 +3,7 @@
 use mathlib.Core.Path.{_≡_, refl}
 use mathlib.Core.Bool.{Bool, true, false, cond, _&&_, _||_}
 use Prim.Native.Nat.{ℕ, _≤_}
-use Rattle.words.specs.Choice.{differ, either}
+use Rattle.words.specs.Choice.{differ}
 
 pub cond-le : (b : Bool) {x y n : ℕ} → x ≤ n → y ≤ n → cond b x y ≤ n
 cond-le true hx hy = hx
@@ -45,16 +45,13 @@ same-tests false b e = cc
 
 -- a chain of tests gives what stands at the first that holds
 module _ {A : Type 0} where
-  pub chosen : (b : Bool) (x y : A) {z : A} → b ≡ true → z ≡ x → z ≡ either b x y
-  unfolding either
+  pub chosen : (b : Bool) (x y : A) {z : A} → b ≡ true → z ≡ x → z ≡ cond b x y
   chosen b x y e h = rw e h
 
-  pub passed : (b : Bool) (x y : A) {z : A} → b ≡ false → z ≡ y → z ≡ either b x y
-  unfolding either
+  pub passed : (b : Bool) (x y : A) {z : A} → b ≡ false → z ≡ y → z ≡ cond b x y
   passed b x y e h = rw e h
 
   -- what holds of both, each where it is chosen, holds of the choice
-  pub either-has : (P : A → Type 0) (b : Bool) {x y : A} → (b ≡ true → P x) → (b ≡ false → P y) → P (either b x y)
-  unfolding either
-  either-has P true hx hy = hx refl
-  either-has P false hx hy = hy refl
+  pub cond-has : (P : A → Type 0) (b : Bool) {x y : A} → (b ≡ true → P x) → (b ≡ false → P y) → P (cond b x y)
+  cond-has P true hx hy = hx refl
+  cond-has P false hx hy = hy refl

@@ -11,3 +11,4 @@ pub mod ArithmeticLaws
 pub mod WordLaws
 pub mod BitwiseLaws
 pub mod Choices
+pub mod EachBelow

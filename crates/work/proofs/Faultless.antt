@@ -1,15 +1,14 @@
 -- What is known of a command without fault.
 -- Assumes nothing.
 use mathlib.Core.Path.{_≡_, refl}
-use mathlib.Core.Bool.{Bool, true, false}
+use mathlib.Core.Bool.{Bool, true, false, cond}
 use mathlib.Core.List.{List}
 use Prim.Native.Nat.{ℕ}
-use Rattle.words.specs.Choice.{either}
 use Rattle.command.specs.declared.outcome.Outcome.{Outcome}
 use Rattle.command.specs.declared.outcome.Outcome.the-variants.{UnknownOpcode, ReservedFlag, WrongPayloadBit, Misaligned, NoFrame, OutsideTheWindow}
 use Rattle.command.specs.declared.header.Command.{Command}
 use Rattle.command.specs.declared.frame.Frame.{Frame}
-use Rattle.command.specs.Outcome.{outcomeNumber, isDone}
+use Rattle.command.specs.Outcome.{isDone}
 use Rattle.command.specs.Flags.{payloadBit, reservedBit}
 use Rattle.command.specs.Table.{rowOf}
 use Rattle.command.specs.Faults.{unknownOpcode, wrongPayloadBit, headerFault}
@@ -18,22 +17,21 @@ use Rattle.work.specs.Perform.{orElse, faultOf}
 use Rattle.words.proofs.Choices.{same-tests}
 
 -- a chain of faults that gives none: its first test does not hold, and the rest gives none
-either-done : (b : Bool) (fault rest : Outcome) → isDone fault ≡ false → isDone (either b fault rest) ≡ true → (b ≡ false) × (isDone rest ≡ true)
-unfolding either
+either-done : (b : Bool) (fault rest : Outcome) → isDone fault ≡ false → isDone (cond b fault rest) ≡ true → (b ≡ false) × (isDone rest ≡ true)
 either-done true fault rest is-fault e = (cc, cc)
 either-done false fault rest is-fault e = (refl, e)
 
 or-else-done : (fault next : Outcome) → isDone (orElse fault next) ≡ true → (isDone fault ≡ true) × (isDone next ≡ true)
-unfolding orElse either
+unfolding orElse
 or-else-done fault next e = go (isDone fault) refl e
   where
-    go : (b : Bool) → isDone fault ≡ b → isDone (either b next fault) ≡ true → (isDone fault ≡ true) × (isDone next ≡ true)
+    go : (b : Bool) → isDone fault ≡ b → isDone (cond b next fault) ≡ true → (isDone fault ≡ true) × (isDone next ≡ true)
     go true same e = (same, e)
     go false same e = (e, cc)
 
 -- the payload bit is as in the table
 pub payload-as-in-table : (c : Command) → isDone (headerFault c) ≡ true → payloadBit (c .flags) ≡ rowOf (c .opcode) .payload
-unfolding headerFault wrongPayloadBit outcomeNumber
+unfolding headerFault wrongPayloadBit
 payload-as-in-table c fine =
     let known = either-done (unknownOpcode c) UnknownOpcode _ refl fine .1 in
     let plain = either-done (reservedBit (c .flags)) ReservedFlag _ refl known .1 in
@@ -41,7 +39,7 @@ payload-as-in-table c fine =
 
 -- no byte is outside the window
 pub not-outside : (c : Command) (length : ℕ) (frame : Frame) (pack : List ℕ) → isDone (checkOf c length frame pack) ≡ true → outside c length frame ≡ false
-unfolding checkOf outcomeNumber
+unfolding checkOf
 not-outside c length frame pack fine =
     let aligned = either-done (misaligned c) Misaligned _ refl fine .1 in
     let framed = either-done (unframed c frame) NoFrame _ refl aligned .1 in

@@ -6,7 +6,6 @@ use Prim.Native.Nat.{ℕ, _+_, _*_, _≤_}
 use lib.Dec.{eqb, ltb}
 use borrow.Author.Tests.{ltb-false}
 use Rattle.memory.specs.Rectangle.{rectangleEnd}
-use Rattle.words.specs.Choice.{either}
 use Rattle.command.specs.declared.header.Command.{Command}
 use Rattle.command.specs.declared.frame.Frame.{Frame}
 use Rattle.command.specs.Opcode.{writeMem, readMem, fillRect, blit, copyBuffer, setFb}
@@ -18,11 +17,11 @@ use Rattle.words.proofs.Choices.{neither-left, neither-right, not-both}
 
 module _ (c : Command) (frame : Frame) (address : ℕ) where
   pub transfer-end : isRectangle (c .opcode) ≡ false → endOf c frame address ≡ address + 4 * c .len
-  unfolding endOf either
+  unfolding endOf
   transfer-end e = rw e
 
   pub rectangle-ends : isRectangle (c .opcode) ≡ true → endOf c frame address ≡ rectangleEnd address (strideOf frame) (widthOf c) (heightOf c)
-  unfolding endOf either
+  unfolding endOf
   rectangle-ends e = rw e
 
 module _ (c : Command) (n : ℕ) (frame : Frame) (in-window : outside c n frame ≡ false) where

@@ -9,7 +9,6 @@ use Rattle.memory.proofs.Lengths.{filled-length, copied-length, blitted-length,
 use Rattle.memory.proofs.Places.{Bytes}
 use Rattle.memory.proofs.ByteSized.{filled-bytes, copied-bytes, blitted-bytes, transferred-bytes}
 use Rattle.kernel.proofs.Windows.{dispatch-length, dispatch-bytes}
-use Rattle.words.specs.Choice.{either}
 use Rattle.command.specs.declared.header.Command.{Command}
 use Rattle.command.specs.declared.frame.Frame.{Frame}
 use Rattle.command.specs.Opcode.{setFb}
@@ -27,7 +26,7 @@ use Rattle.work.proofs.Performs.{performed-has}
 -- SET_FB is checked as its frame is
 pub set-fb-check : (c : Command) (length : ℕ) (frame : Frame) (pack : List ℕ) → c .opcode ≡ setFb
     → checkOf c length frame pack ≡ frameFault (c .arg0) (c .arg1) (c .arg2) length
-unfolding checkOf misaligned unframed outside unfitFrame unfitDispatch isRectangle rowOf frameFault either
+unfolding checkOf misaligned unframed outside unfitFrame unfitDispatch isRectangle rowOf frameFault
 set-fb-check c length frame pack e = rw e
 
 module _ (c : Command) (full : Bool) (ring window : List ℕ) (frame : Frame) (pack pipe : List ℕ) (limit : ℕ) where

@@ -7,30 +7,31 @@ use mathlib.Core.Logic.{inl, inr, ⊎-elim}
 use Prim.Native.Nat.{ℕ, _≤_, _<_}
 use native.Mathlib.Nat.{le-refl}
 use native.Mathlib.Omega.{arith}
+use lib.Dec.{eqb}
 use lib.ListN.{length}
 use borrow.Author.Tests.{le-leb, lt-leb, eqb-false}
-use Rattle.words.specs.Choice.{either}
 use Rattle.command.specs.declared.outcome.Outcome.{Outcome}
 use Rattle.command.specs.declared.header.Command.{Command}
 use Rattle.command.specs.declared.frame.Frame.{Frame}
 use Rattle.command.specs.Outcome.{outcomeNumber, isDone}
 use Rattle.command.specs.Flags.{irqBit, emitBit}
 use Rattle.command.specs.Faults.{headerFault}
-use Rattle.work.specs.Checks.{slotFault}
+use Rattle.work.specs.Checks.{slotFault, checkOf}
 use Rattle.command.specs.Report.{doneOrFrom, emits, interrupts, wordsRead}
-use Rattle.work.specs.Work.{Left, leaves}
+use Rattle.work.specs.Work.{Left, leaves, workOf}
 use Rattle.work.specs.Perform.{orElse, faultOf, performedOf}
-use Rattle.words.proofs.Choices.{either-has}
+use Rattle.words.proofs.Choices.{cond-has}
 use Rattle.work.proofs.Numbers.{DoneOr, header-range, slot-range, check-range, work-range}
 use Rattle.work.proofs.Performs.{performed-fault, performed-has}
+use Rattle.command.specs.Opcode.{readMem}
 
 -- a fault hides the next; none lets it through
 or-else-fault : (fault next : Outcome) → isDone fault ≡ false → orElse fault next ≡ fault
-unfolding orElse either
+unfolding orElse
 or-else-fault fault next e = rw e
 
 or-else-next : (fault next : Outcome) → isDone fault ≡ true → orElse fault next ≡ next
-unfolding orElse either
+unfolding orElse
 or-else-next fault next e = rw e
 
 -- a fault that is not done is in its range
@@ -88,8 +89,8 @@ module _ (c : Command) (full : Bool) (ring window : List ℕ) (frame : Frame) (p
   unfolding leaves faultOf
   checked-range fine free =
       performed-has c full ring window frame pack pipe limit (λ l. DoneOr 6 14 (l .performed .outcome))
-      (λ e. widen 11 14 _ (omega arith) (omega arith) (work-range c ring window frame pack pipe limit))
-      (λ e. rw (or-else-next (headerFault c) _ fine, or-else-next (slotFault c full) _ free) (widen 6 10 _ (omega arith) (omega arith) (check-range c (length window) frame pack)))
+      (λ e. widen 11 14 (workOf c ring window frame pack pipe limit .performed .outcome) (omega arith) (omega arith) (work-range c ring window frame pack pipe limit))
+      (λ e. rw (or-else-next (headerFault c) _ fine, or-else-next (slotFault c full) _ free) (widen 6 10 (checkOf c (length window) frame pack) (omega arith) (omega arith) (check-range c (length window) frame pack)))
 
   -- outcomes 1 to 10 change no memory, pipe or frame
   pub unchanged : 1 ≤ outcomeNumber outcome → outcomeNumber outcome ≤ 10
@@ -108,9 +109,9 @@ module _ (c : Command) (full : Bool) (ring window : List ℕ) (frame : Frame) (p
   emits-when = ap (λ b. emitBit (c .flags) && b) (go (isDone (headerFault c)) (isDone (slotFault c full)) refl refl)
     where
       go : (h s : Bool) → isDone (headerFault c) ≡ h → isDone (slotFault c full) ≡ s → doneOrFrom 6 outcome ≡ (h && s)
-      go false s eh es = rw (header-outcome eh) (from-fails 6 1 4 _ (omega arith) (omega arith) (header-range c) eh)
-      go true false eh es = rw (slot-outcome eh es) (from-fails 6 5 5 _ (omega arith) (omega arith) (slot-range c full) es)
-      go true true eh es = from-holds 6 6 14 _ (omega arith) (checked-range eh es)
+      go false s eh es = rw (header-outcome eh) (from-fails 6 1 4 (headerFault c) (omega arith) (omega arith) (header-range c) eh)
+      go true false eh es = rw (slot-outcome eh es) (from-fails 6 5 5 (slotFault c full) (omega arith) (omega arith) (slot-range c full) es)
+      go true true eh es = from-holds 6 6 14 outcome (omega arith) (checked-range eh es)
 
   -- an IRQ is raised for its bit and no header fault
   pub interrupts-when : interrupts c outcome ≡ (irqBit (c .flags) && isDone (headerFault c))
@@ -118,11 +119,11 @@ module _ (c : Command) (full : Bool) (ring window : List ℕ) (frame : Frame) (p
   interrupts-when = ap (λ b. irqBit (c .flags) && b) (go (isDone (headerFault c)) (isDone (slotFault c full)) refl refl)
     where
       go : (h s : Bool) → isDone (headerFault c) ≡ h → isDone (slotFault c full) ≡ s → doneOrFrom 5 outcome ≡ h
-      go false s eh es = rw (header-outcome eh) (from-fails 5 1 4 _ (omega arith) (omega arith) (header-range c) eh)
-      go true false eh es = rw (slot-outcome eh es) (from-holds 5 5 5 _ (omega arith) (slot-range c full))
-      go true true eh es = from-holds 5 6 14 _ (omega arith) (checked-range eh es)
+      go false s eh es = rw (header-outcome eh) (from-fails 5 1 4 (headerFault c) (omega arith) (omega arith) (header-range c) eh)
+      go true false eh es = rw (slot-outcome eh es) (from-holds 5 5 5 (slotFault c full) (omega arith) (slot-range c full))
+      go true true eh es = from-holds 5 6 14 outcome (omega arith) (checked-range eh es)
 
 -- words read are at most len
 pub words-read-most : (c : Command) (o : Outcome) → wordsRead c o ≤ c .len
 unfolding wordsRead
-words-read-most c o = either-has (λ n. n ≤ c .len) _ (λ e. le-refl _) (λ e. omega arith)
+words-read-most c o = cond-has (λ n. n ≤ c .len) (eqb (c .opcode) readMem && isDone o) {x = c .len} {y = 0} (λ e. le-refl _) (λ e. omega arith)

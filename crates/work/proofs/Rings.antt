@@ -10,7 +10,6 @@ use lib.ListN.{length, set}
 use borrow.Author.Tests.{eqb-true}
 use Rattle.memory.specs.Transfer.{transferred}
 use Rattle.memory.proofs.After.{after-agree}
-use Rattle.words.specs.Choice.{either}
 use Rattle.command.specs.declared.header.Command.{Command}
 use Rattle.command.specs.declared.frame.Frame.{Frame}
 use Rattle.command.specs.Opcode.{writeMem}
@@ -34,7 +33,7 @@ module _ (r₁ r₂ : List ℕ) where
   work-agree : (c : Command) (window : List ℕ) (frame : Frame) (pack pipe : List ℕ) (limit : ℕ)
       → (c .opcode ≡ writeMem → Agree r₁ r₂ (c .payload) (c .payload + 4 * c .len))
       → workOf c r₁ window frame pack pipe limit ≡ workOf c r₂ window frame pack pipe limit
-  unfolding workOf either
+  unfolding workOf
   work-agree c window frame pack pipe limit same = go (eqb (c .opcode) writeMem) refl
     where
       go : (b : Bool) → eqb (c .opcode) writeMem ≡ b → workOf c r₁ window frame pack pipe limit ≡ workOf c r₂ window frame pack pipe limit

@@ -1,10 +1,9 @@
 -- Outcomes 5 to 10.
 use Prim.Native.Nat.{ℕ}
-use mathlib.Core.Bool.{Bool, _&&_, _||_}
+use mathlib.Core.Bool.{Bool, _&&_, _||_, cond}
 use mathlib.Core.List.{List}
 use lib.Dec.{eqb, ltb, leb}
 use Rattle.pack.specs.Kernels.{kernelCount}
-use Rattle.words.specs.Choice.{either}
 use Rattle.command.specs.declared.outcome.Outcome.{Outcome}
 use Rattle.command.specs.declared.outcome.Outcome.the-variants.{Done, SlotFull, Misaligned, NoFrame, OutsideTheWindow, BadFrame, BadDispatch}
 use Rattle.command.specs.declared.header.Command.{Command}
@@ -17,7 +16,7 @@ use Rattle.work.specs.Shape.{isRectangle, widthOf, heightOf, tooNarrow, 
 
 -- 5: emit set and the slot is full
 unfoldable pub slotFault : Command → Bool → Outcome
-slotFault c full = either (emitBit (c .flags) && full) SlotFull Done
+slotFault c full = cond (emitBit (c .flags) && full) SlotFull Done
 
 -- 6: an address (01, 02, 10, 11, 23), or SET_FB's base or stride, not a multiple of 4
 unfoldable pub misaligned : Command → Bool
@@ -53,9 +52,9 @@ unfitDispatch c pack =
 -- the smallest of 6 to 10 that applies
 unfoldable pub checkOf : Command → ℕ → Frame → List ℕ → Outcome
 checkOf c length frame pack =
-    either (misaligned c) Misaligned
-    (either (unframed c frame) NoFrame
-    (either (outside c length frame) OutsideTheWindow
-    (either (unfitFrame c) BadFrame
-    (either (unfitDispatch c pack) BadDispatch
+    cond (misaligned c) Misaligned
+    (cond (unframed c frame) NoFrame
+    (cond (outside c length frame) OutsideTheWindow
+    (cond (unfitFrame c) BadFrame
+    (cond (unfitDispatch c pack) BadDispatch
     Done))))

@@ -1,10 +1,9 @@
 -- A command performed: its faults in order, and its work if there is none.
 use Prim.Native.Nat.{ℕ, _+_, _*_, _≤_}
 use mathlib.Core.Path.{_≡_}
-use mathlib.Core.Bool.{Bool, true}
+use mathlib.Core.Bool.{Bool, true, cond}
 use mathlib.Core.List.{List}
 use lib.ListN.{length}
-use Rattle.words.specs.Choice.{either}
 use Rattle.command.specs.declared.outcome.Outcome.{Outcome}
 use Rattle.command.specs.declared.header.Command.{Command}
 use Rattle.command.specs.declared.frame.Frame.{Frame}
@@ -16,7 +15,7 @@ use Rattle.work.specs.Work.{Left, leaves, workOf}
 
 -- a fault, or the next if it is none
 unfoldable pub orElse : Outcome → Outcome → Outcome
-orElse fault next = either (isDone fault) next fault
+orElse fault next = cond (isDone fault) next fault
 
 -- the smallest of 1 to 10 that applies
 unfoldable pub faultOf : Command → Bool → ℕ → Frame → List ℕ → Outcome
@@ -24,7 +23,7 @@ faultOf c full length frame pack = orElse (headerFault c) (orElse (slotFault c f
 
 -- the work if there is no fault; a fault changes no memory, pipe or frame
 unfoldable pub guarded : Outcome → Frame → List ℕ → List ℕ → Left → Left
-guarded fault frame window pipe work = either (isDone fault) work (leaves fault frame window pipe)
+guarded fault frame window pipe work = cond (isDone fault) work (leaves fault frame window pipe)
 
 -- a command performed; `full` tells whether its slot is
 unfoldable pub performedOf : Command → Bool → List ℕ → List ℕ → Frame → List ℕ → List ℕ → ℕ → Left

@@ -1,4 +1,5 @@
 -- The work of the commands, on the ring's window, the pipe and the frame.
+use mathlib.Core.Bool.{cond}
 use Prim.Native.Nat.{ℕ, _*_}
 use mathlib.Core.Path.{_≡_}
 use mathlib.Core.List.{List}
@@ -10,7 +11,6 @@ use Rattle.kernel.specs.declared.step.Stop.the-variants.{NotListed as Unlisted,
 use Rattle.kernel.specs.declared.dispatch.Ran.{Ran}
 use Rattle.kernel.specs.declared.dispatch.Ran.the-variants.{Done as RanToItsEnd, Stopped}
 use Rattle.kernel.specs.Dispatch.{Dispatched, dispatchOf}
-use Rattle.words.specs.Choice.{either}
 use Rattle.command.specs.declared.outcome.Outcome.{Outcome}
 use Rattle.command.specs.declared.outcome.Outcome.the-variants.{Done, NotListed, OffTheKernel, AccessOutside, OutOfSteps}
 use Rattle.command.specs.declared.header.Command.{Command}
@@ -63,11 +63,11 @@ heldBy c = Held (c .arg0) (c .arg1) (c .arg2)
 -- SET_FB arg0 base, arg1 stride, arg2 format; BARRIER nothing
 unfoldable pub workOf : Command → List ℕ → List ℕ → Frame → List ℕ → List ℕ → ℕ → Left
 workOf c ring window frame pack pipe limit =
-    either (eqb (c .opcode) writeMem) (leaves Done frame (transferred ring (c .payload) (c .arg0) (4 * c .len) window) pipe)
-    (either (eqb (c .opcode) readMem) (leaves Done frame window (transferred window (c .arg0) 0 (4 * c .len) pipe))
-    (either (eqb (c .opcode) fillRect) (leaves Done frame (filled (c .arg0) (strideOf frame) (widthOf c) (heightOf c) (c .arg2) window) pipe)
-    (either (eqb (c .opcode) blit) (leaves Done frame (blitted (c .arg0) (c .arg1) (strideOf frame) (widthOf c) (heightOf c) window) pipe)
-    (either (eqb (c .opcode) dispatch1D) (afterDispatch frame pipe (dispatchedBy c limit pack window))
-    (either (eqb (c .opcode) copyBuffer) (leaves Done frame (copied (c .arg0) (c .arg1) (c .len) window) pipe)
-    (either (eqb (c .opcode) setFb) (leaves Done (heldBy c) window pipe)
+    cond (eqb (c .opcode) writeMem) (leaves Done frame (transferred ring (c .payload) (c .arg0) (4 * c .len) window) pipe)
+    (cond (eqb (c .opcode) readMem) (leaves Done frame window (transferred window (c .arg0) 0 (4 * c .len) pipe))
+    (cond (eqb (c .opcode) fillRect) (leaves Done frame (filled (c .arg0) (strideOf frame) (widthOf c) (heightOf c) (c .arg2) window) pipe)
+    (cond (eqb (c .opcode) blit) (leaves Done frame (blitted (c .arg0) (c .arg1) (strideOf frame) (widthOf c) (heightOf c) window) pipe)
+    (cond (eqb (c .opcode) dispatch1D) (afterDispatch frame pipe (dispatchedBy c limit pack window))
+    (cond (eqb (c .opcode) copyBuffer) (leaves Done frame (copied (c .arg0) (c .arg1) (c .len) window) pipe)
+    (cond (eqb (c .opcode) setFb) (leaves Done (heldBy c) window pipe)
     (leaves Done frame window pipe)))))))

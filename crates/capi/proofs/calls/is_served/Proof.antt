@@ -1,7 +1,5 @@
 -- `capi::calls::is_served` meets its contract. Assumes nothing.
-use Rattle.device.specs.Answer.{answerNumber}
 use Rattle.device.proofs.Answers.{refusal-not-0}
-use Rattle.capi.specs.Calls.{isServed}
 use borrow.Author.Needs.{needs}
 use Rattle.capi.proofs.calls.is_served.Statement.{statement}
 use Rattle.capi.proofs.calls.is_served.Tie as tie
@@ -16,15 +14,12 @@ enum-told-3 : tie.Need-enum-told-3
 enum-told-3 c = search needs
 
 returns : tie.Need-returns
-unfolding isServed answerNumber
 returns c = rw (c .enum-told .given .1, refusal-not-0)
 
 returns-2 : tie.Need-returns-2
-unfolding isServed answerNumber
 returns-2 c = rw (c .enum-told2 .given .1)
 
 returns-3 : tie.Need-returns-3
-unfolding isServed answerNumber
 returns-3 c = rw (c .enum-told3 .given .1)
 
 pub is-served-spec : {M : Type 1} → statement M

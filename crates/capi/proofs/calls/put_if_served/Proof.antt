@@ -1,5 +1,4 @@
 -- `capi::calls::put_if_served` meets its contract. Assumes nothing.
-use Rattle.words.specs.Choice.{either}
 use Rattle.capi.specs.Calls.{imageAfter}
 use borrow.Author.Needs.{needs}
 use Rattle.capi.proofs.calls.put_if_served.Statement.{statement}
@@ -15,11 +14,11 @@ same-length : tie.Need-same-length
 same-length c = search needs
 
 returns : tie.Need-returns
-unfolding imageAfter either
+unfolding imageAfter
 returns c = rw (← c .before .before .before .before .before .is-served .ensures, c .before .before .before .before .if1 .taken) (c .before .before .put-device .ensures)
 
 returns-2 : tie.Need-returns-2
-unfolding imageAfter either
+unfolding imageAfter
 returns-2 c = rw (← c .before .is-served .ensures, c .if1 .left)
 
 pub put-if-served-spec : {M : Type 1} → statement M

@@ -10,7 +10,6 @@ use Rattle.capi.proofs.WordBytes.{words-whole}
 use native.Mathlib.Omega.{arith}
 use Rattle.capi.specs.Calls.{turnCall, untouched, calledOf}
 use Rattle.capi.specs.Report.{reportWords, reportBytes, reportLength}
-use Rattle.words.specs.Choice.{either}
 use borrow.Author.Tests.{eq-eqb, ne-eqb}
 use borrow.Author.Needs.{needs}
 use Rattle.capi.proofs.calls.turn_call.Statement.{statement}
@@ -23,13 +22,13 @@ unfolding reportWords
 first-word answer words e = rw e
 
 returns : tie.Need-returns
-unfolding turnCall untouched either
+unfolding turnCall untouched
 returns c = let s = c .before .before .before .before .before .before .before .before .before .before .args in
     rw (ne-eqb (length (now (s .image))) imageLength (λ e. omega (arith, e, c .if1 .taken)))
     (record { image = refl; memory = refl; pipe = refl; report = refl; answer = refl })
 
 returns-2 : tie.Need-returns-2
-unfolding turnCall untouched either
+unfolding turnCall untouched
 returns-2 c = let s = c .before .before .before .before .before .before .before .before .before .before .before .args in
     rw (eq-eqb (length (now (s .image))) imageLength (omega (arith, c .before .if1 .left)), ne-eqb (length (now (s .report))) reportLength (λ e. omega (arith, e, c .if2 .taken)))
     (record { image = refl; memory = refl; pipe = refl; report = refl; answer = refl })
@@ -68,7 +67,7 @@ same-length-4 : tie.Need-same-length-4
 same-length-4 c = search needs
 
 returns-3 : tie.Need-returns-3
-unfolding turnCall calledOf reportBytes either
+unfolding turnCall calledOf reportBytes
 returns-3 c = let s = c .before .before .before .before .before .before .before .before .before .before .before .before .before .before .before .before .before .before .before .before .before .before .before .before .before .before .before .before .before .before .before .args in
     let image : length (now (s .image)) ≡ imageLength = omega (arith, c .before .before .before .before .before .before .before .before .before .before .before .before .before .before .before .before .before .before .before .before .before .if1 .left) in
     let report : length (now (s .report)) ≡ reportLength = omega (arith, c .before .before .before .before .before .before .before .before .before .before .before .before .before .before .before .before .before .before .before .before .if2 .left) in

@@ -1,5 +1,5 @@
 -- `capi::report::report_words` meets its contract. Assumes nothing.
-use Rattle.device.specs.Answer.{answerNumber, valuesOf}
+use Rattle.device.specs.Answer.{valuesOf}
 use Rattle.capi.specs.Report.{reportWords}
 use borrow.Author.Needs.{needs}
 use Rattle.capi.proofs.report.report_words.Statement.{statement}
@@ -24,15 +24,15 @@ bit-requires : tie.Need-bit-requires
 bit-requires c κs = search needs
 
 returns : tie.Need-returns
-unfolding reportWords answerNumber valuesOf
+unfolding reportWords valuesOf
 returns c = rw (c .before .before .answer .given .1, c .refusal-number .ensures)
 
 returns-2 : tie.Need-returns-2
-unfolding reportWords answerNumber valuesOf
+unfolding reportWords valuesOf
 returns-2 c = rw (c .enum-told .given .1)
 
 returns-3 : tie.Need-returns-3
-unfolding reportWords answerNumber valuesOf
+unfolding reportWords valuesOf
 returns-3 c = rw (c .before .before .before .answer2 .given .1, c .bit .ensures, c .before .number .ensures)
 
 pub report-words-spec : {M : Type 1} → statement M

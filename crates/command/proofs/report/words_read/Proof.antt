@@ -1,7 +1,5 @@
 -- `command::report::words_read` meets its contract. Assumes nothing.
-use mathlib.Core.Path.{refl}
 use Rattle.command.specs.Report.{wordsRead}
-use Rattle.words.proofs.Choices.{chosen, passed}
 use borrow.Author.Needs.{needs}
 use Rattle.command.proofs.report.words_read.Statement.{statement}
 use Rattle.command.proofs.report.words_read.Tie as tie
@@ -17,11 +15,11 @@ cast-result c = search needs
 
 returns : tie.Need-returns
 unfolding wordsRead
-returns c = chosen _ _ _ (cc) refl
+returns c = rw (← c .before .before .before .is-done .ensures, ← c .before .before .both .ensures, c .before .if1 .taken)
 
 returns-2 : tie.Need-returns-2
 unfolding wordsRead
-returns-2 c = passed _ _ _ (cc) refl
+returns-2 c = rw (← c .before .before .is-done .ensures, ← c .before .both .ensures, c .if1 .left)
 
 pub words-read-spec : {M : Type 1} → statement M
 words-read-spec = tie.close (tie.spec is-done-requires both-requires cast-result returns returns-2)

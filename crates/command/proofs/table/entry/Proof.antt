@@ -7,7 +7,7 @@ use lib.Dec.{eqb}
 use lib.ListN.{getD, replicate}
 use borrow.Author.Tests.{eqb-true}
 use Rattle.command.specs.Table.{entryOf, rowOf}
-use Rattle.command.proofs.Every.{every-below}
+use Rattle.words.proofs.EachBelow.{every-below}
 use borrow.Author.Needs.{needs}
 use Rattle.command.proofs.table.entry.Statement.{statement}
 use Rattle.command.proofs.table.entry.Tie as tie

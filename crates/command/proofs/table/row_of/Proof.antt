@@ -1,6 +1,6 @@
 -- `command::table::row_of` meets its contract. Assumes nothing.
 use Rattle.command.specs.Table.{rowOf}
-use Rattle.command.proofs.Entries.{entry-row}
+use Rattle.command.proofs.TableRows.{entry-row}
 use borrow.Author.Needs.{needs}
 use Rattle.command.proofs.table.row_of.Statement.{statement}
 use Rattle.command.proofs.table.row_of.Tie as tie

@@ -1,6 +1,5 @@
 -- `device::fresh::make` meets its contract. Assumes nothing.
 use Rattle.device.specs.Fresh.{freshOf}
-use Rattle.words.specs.Choice.{either}
 use borrow.Author.Needs.{needs}
 use Rattle.device.proofs.fresh.make.Statement.{statement}
 use Rattle.device.proofs.fresh.make.Tie as tie
@@ -12,14 +11,14 @@ fresh-requires : tie.Need-fresh-requires
 fresh-requires c κs = search needs
 
 returns : tie.Need-returns
-unfolding freshOf either
+unfolding freshOf
 returns c = rw (← c .before .before .memory-fits .ensures, c .before .if1 .taken) (cc)
 
 fresh-requires-2 : tie.Need-fresh-requires-2
 fresh-requires-2 c κs = search needs
 
 returns-2 : tie.Need-returns-2
-unfolding freshOf either
+unfolding freshOf
 returns-2 c = rw (← c .before .before .memory-fits .ensures, c .before .if1 .left) (cc)
 
 pub make-spec : {M : Type 1} → statement M

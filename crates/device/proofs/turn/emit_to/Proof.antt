@@ -1,6 +1,5 @@
 -- `device::turn::emit_to` meets its contract. Assumes nothing.
 use Rattle.device.specs.Turn.{emitTo}
-use Rattle.words.specs.Choice.{either}
 use borrow.Author.Needs.{needs}
 use Rattle.device.proofs.turn.emit_to.Statement.{statement}
 use Rattle.device.proofs.turn.emit_to.Tie as tie
@@ -12,11 +11,11 @@ with-slots-requires : tie.Need-with-slots-requires
 with-slots-requires c κs = search needs
 
 returns : tie.Need-returns
-unfolding emitTo either
+unfolding emitTo
 returns c = rw (c .before .before .before .if1 .taken) (cc)
 
 returns-2 : tie.Need-returns-2
-unfolding emitTo either
+unfolding emitTo
 returns-2 c = rw (c .if1 .left)
 
 pub emit-to-spec : {M : Type 1} → statement M

@@ -1,6 +1,4 @@
 -- `work::checks::slot_fault` meets its contract. Assumes nothing.
-use Rattle.words.proofs.Choices.{chosen, passed}
-use mathlib.Core.Path.{refl}
 use Rattle.work.specs.Checks.{slotFault}
 use borrow.Author.Needs.{needs}
 use Rattle.work.proofs.checks.slot_fault.Statement.{statement}
@@ -14,11 +12,11 @@ both-requires c κs = search needs
 
 returns : tie.Need-returns
 unfolding slotFault
-returns c = chosen _ _ _ (cc) refl
+returns c = rw (← c .before .before .emit .ensures, ← c .before .both .ensures, c .if1 .taken)
 
 returns-2 : tie.Need-returns-2
 unfolding slotFault
-returns-2 c = passed _ _ _ (cc) refl
+returns-2 c = rw (← c .before .before .emit .ensures, ← c .before .both .ensures, c .if1 .left)
 
 pub slot-fault-spec : {M : Type 1} → statement M
 slot-fault-spec = tie.close (tie.spec emit-requires both-requires returns returns-2)
