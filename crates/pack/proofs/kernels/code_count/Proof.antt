@@ -1,4 +1,4 @@
--- `kernel::pack::code_count` meets its contract. Assumes nothing.
+-- `pack::kernels::code_count` meets its contract. Assumes nothing.
 use Rattle.pack.specs.Kernels.{codeCount}
 use borrow.Author.Needs.{needs}
 use Rattle.pack.proofs.kernels.code_count.Statement.{statement}
@@ -21,7 +21,7 @@ peek-word-requires c κs = search needs
 
 returns : tie.Need-returns
 unfolding codeCount
-returns c = cc
+returns c = rw (c .peek-word .ensures, c .before .kernel-count .ensures)
 
 pub code-count-spec : {M : Type 1} → statement M
 code-count-spec =

@@ -1,4 +1,4 @@
--- `kernel::pack::first_word` meets its contract. Assumes nothing.
+-- `pack::kernels::first_word` meets its contract. Assumes nothing.
 use Rattle.pack.specs.Kernels.{firstWord}
 use borrow.Author.Needs.{needs}
 use Rattle.pack.proofs.kernels.first_word.Statement.{statement}

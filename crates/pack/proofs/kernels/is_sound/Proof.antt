@@ -1,4 +1,4 @@
--- `kernel::pack::is_sound` meets its contract. Assumes nothing.
+-- `pack::kernels::is_sound` meets its contract. Assumes nothing.
 use Rattle.pack.specs.Kernels.{soundPack}
 use borrow.Author.Needs.{needs}
 use Rattle.pack.proofs.kernels.is_sound.Statement.{statement}

@@ -1,4 +1,4 @@
--- `kernel::pack::kernel_count` meets its contract. Assumes nothing.
+-- `pack::kernels::kernel_count` meets its contract. Assumes nothing.
 use Rattle.pack.specs.Kernels.{kernelCount}
 use borrow.Author.Needs.{needs}
 use Rattle.pack.proofs.kernels.kernel_count.Statement.{statement}

@@ -1,4 +1,4 @@
--- `kernel::pack::kernel_words` meets its contract. Assumes nothing.
+-- `pack::kernels::kernel_words` meets its contract. Assumes nothing.
 use Rattle.pack.specs.Kernels.{kernelWords}
 use borrow.Author.Needs.{needs}
 use Rattle.pack.proofs.kernels.kernel_words.Statement.{statement}

@@ -1,4 +1,4 @@
--- `kernel::pack::lies_in_code` meets its contract. Assumes nothing.
+-- `pack::kernels::lies_in_code` meets its contract. Assumes nothing.
 use Rattle.pack.specs.Kernels.{liesInCode}
 use borrow.Author.Needs.{needs}
 use Rattle.pack.proofs.kernels.lies_in_code.Statement.{statement}
@@ -30,7 +30,7 @@ both-requires c κs = search needs
 
 returns : tie.Need-returns
 unfolding liesInCode
-returns c = cc
+returns c = rw (c .both .ensures, c .before .code-count .ensures, c .before .before .kernel-words .ensures, c .before .before .before .first-word .ensures)
 
 pub lies-in-code-spec : {M : Type 1} → statement M
 lies-in-code-spec =
