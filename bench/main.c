@@ -7,7 +7,7 @@
 #include <string.h>
 #include <time.h>
 
-#include "../independent/image.h"
+#include "../independent/device/image.h"
 #include "kernels.h"
 #include "works.h"
 
@@ -16,16 +16,23 @@ static const struct side sides[] = {
     {"independent", ind_fv_fresh, ind_fv_turn},
 };
 
+enum {
+    ROW_PIXELS = SCENE_STRIDE / 4,
+    MEMORY_ROWS = FV_MEMORY_MOST / SCENE_STRIDE,
+    RING_COMMANDS = FV_RING_MOST / FV_HEADER_BYTES,
+    THREADS = FV_GROUPS_MOST * FV_THREADS_MOST
+};
+
 static const struct work works[] = {
     {"idle, rings empty", "turn", 1, 100000, 200, queue_idle},
     {"idle, four rings wait", "turn", 1, 100000, 200, queue_waiting},
-    {"BARRIER", "turn", 1, 4096, 200, queue_barriers},
-    {"COPY_BUFFER of 255 words", "turn", 1, 4096, 200, queue_copies},
-    {"BLIT of 512 pixels a row", "word", 512, 256, 64, queue_blit},
-    {"FILL_RECT of 512 pixels a row", "word", 512, 512, 64, queue_fill},
-    {"ALU kernel", "step", THREAD_STEPS, 4096, 4, queue_alu},
-    {"memory kernel", "step", THREAD_STEPS, 4096, 4, queue_memory},
-    {"vector kernel", "step", THREAD_STEPS, 4096, 4, queue_vector},
+    {"BARRIER", "turn", 1, RING_COMMANDS, 200, queue_barriers},
+    {"COPY_BUFFER of 255 words", "turn", 1, RING_COMMANDS, 200, queue_copies},
+    {"BLIT of 512 pixels a row", "word", ROW_PIXELS, MEMORY_ROWS / 2, 64, queue_blit},
+    {"FILL_RECT of 512 pixels a row", "word", ROW_PIXELS, MEMORY_ROWS, 64, queue_fill},
+    {"ALU kernel", "step", THREAD_STEPS, THREADS, 4, queue_alu},
+    {"memory kernel", "step", THREAD_STEPS, THREADS, 4, queue_memory},
+    {"vector kernel", "step", THREAD_STEPS, THREADS, 4, queue_vector},
 };
 
 enum { SIDES = sizeof sides / sizeof *sides, WORKS = sizeof works / sizeof *works, TRIES = 5 };

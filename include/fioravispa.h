@@ -57,15 +57,15 @@ enum {
      * image, memory and pipe are as they were. fv_fresh can give 101 alone, and
      * writes a fresh device of four empty windows. */
     FV_REFUSED_MEMORY = 101,      /* memory too long, or a window outside it or not in multiples of 4 */
-    FV_REFUSED_STATE = 102,       /* marker above 3, cursor above 65,536, or a held frame that SET_FB would refuse */
+    FV_REFUSED_STATE = 102,       /* marker above 3, cursor above FV_RING_MOST, or a held frame SET_FB would refuse */
     FV_REFUSED_RINGS = 103,       /* a ring too long or shorter than its cursor */
-    FV_REFUSED_PIPE = 104,        /* pipe under 1,020 bytes */
+    FV_REFUSED_PIPE = 104,        /* pipe under FV_PIPE_LEAST */
     FV_REFUSED_PACK = 105,        /* faulty pack */
 
     /* A piece of the wrong length: nothing is written, the report neither. */
-    FV_WRONG_IMAGE = 201,         /* not 372 bytes */
-    FV_WRONG_REPORT = 202,        /* not 24 bytes */
-    FV_WRONG_WINDOWS = 203        /* not 32 bytes */
+    FV_WRONG_IMAGE = 201,         /* not FV_IMAGE_BYTES */
+    FV_WRONG_REPORT = 202,        /* not FV_REPORT_BYTES */
+    FV_WRONG_WINDOWS = 203        /* not FV_WINDOWS_BYTES */
 };
 
 /* ---- what became of a served command ----

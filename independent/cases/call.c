@@ -4,16 +4,26 @@
 #include <stdlib.h>
 #include <string.h>
 
-#include "image.h"
-#include "kernels/packs.h"
+#include "cases/kernels/packs.h"
+#include "cases/words.h"
+#include "device/image.h"
+#include "device/parts.h"
+
+enum { SPAN_BYTES = 2 * WORD, ANSWER_BYTES = WORD };
 
 /* A little more than a device takes, so that what is too long can be lent. */
 static const size_t most[PIECES] = {
-    [PIECE_DEVICE] = 400, [PIECE_MEMORY] = 1048640,
-    [PIECE_RING] = 65600, [PIECE_RING + 1] = 65600,
-    [PIECE_RING + 2] = 65600, [PIECE_RING + 3] = 65600,
-    [PIECE_PACK] = 66000, [PIECE_PIPE] = 2048, [PIECE_REPORT] = 40,
-    [PIECE_WINDOWS] = 40, [PIECE_SPAN] = 8, [PIECE_ANSWER] = 4
+    [PIECE_DEVICE] = IND_IMAGE_BYTES + ROOM_BESIDE,
+    [PIECE_MEMORY] = IND_MEMORY_MOST + ROOM_BESIDE,
+    [PIECE_RING] = IND_RING_MOST + ROOM_BESIDE,
+    [PIECE_RING + 1] = IND_RING_MOST + ROOM_BESIDE,
+    [PIECE_RING + 2] = IND_RING_MOST + ROOM_BESIDE,
+    [PIECE_RING + 3] = IND_RING_MOST + ROOM_BESIDE,
+    [PIECE_PACK] = PACK_MOST,
+    [PIECE_PIPE] = IND_PIPE_LEAST + PIPE_ROOM_BESIDE,
+    [PIECE_REPORT] = IND_REPORT_BYTES + ROOM_BESIDE,
+    [PIECE_WINDOWS] = IND_WINDOWS_BYTES + ROOM_BESIDE,
+    [PIECE_SPAN] = SPAN_BYTES, [PIECE_ANSWER] = ANSWER_BYTES
 };
 
 const char *const piece_names[PIECES] = {
@@ -30,11 +40,21 @@ static void *must(void *room)
     return room;
 }
 
+static void must_hold(const struct piece *piece, size_t length)
+{
+    if (length > piece->most) {
+        fprintf(stderr, "%s: %zu bytes have no room in %zu\n", piece->name,
+                length, piece->most);
+        exit(2);
+    }
+}
+
 /* The bytes behind a piece are known, to see that a call leaves them. */
 void piece_end(struct piece *piece, size_t length)
 {
-    piece->length = length < piece->most ? length : piece->most;
-    memset(piece->bytes + piece->length, 0xA5, GUARD);
+    must_hold(piece, length);
+    piece->length = length;
+    memset(piece->bytes + length, 0xA5, GUARD);
 }
 
 struct call *call_new(void)
@@ -42,6 +62,7 @@ struct call *call_new(void)
     struct call *call = must(calloc(1, sizeof *call));
 
     for (int i = 0; i < PIECES; i++) {
+        call->pieces[i].name = piece_names[i];
         call->pieces[i].most = most[i];
         call->pieces[i].bytes = must(malloc(most[i] + GUARD));
         piece_end(&call->pieces[i], 0);
@@ -64,10 +85,7 @@ void piece_zeros(struct piece *piece, size_t length)
 
 void piece_add(struct piece *piece, const uint8_t *bytes, size_t count)
 {
-    size_t room = piece->most - piece->length;
-
-    if (count > room)
-        count = room;
+    must_hold(piece, piece->length + count);
     if (count != 0)
         memcpy(piece->bytes + piece->length, bytes, count);
     piece_end(piece, piece->length + count);
@@ -75,7 +93,7 @@ void piece_add(struct piece *piece, const uint8_t *bytes, size_t count)
 
 void piece_add_word(struct piece *piece, uint32_t word)
 {
-    uint8_t bytes[4];
+    uint8_t bytes[WORD];
 
     put_word(bytes, word);
     piece_add(piece, bytes, sizeof bytes);
@@ -87,10 +105,10 @@ void call_start(struct call *call, enum call_kind kind)
     for (int i = 0; i < PIECES; i++)
         piece_end(&call->pieces[i], 0);
     piece_zeros(&call->pieces[PIECE_DEVICE], IND_IMAGE_BYTES);
-    piece_zeros(&call->pieces[PIECE_ANSWER], 4);
+    piece_zeros(&call->pieces[PIECE_ANSWER], ANSWER_BYTES);
     if (kind == CALL_FRESH) {
         piece_zeros(&call->pieces[PIECE_WINDOWS], IND_WINDOWS_BYTES);
-        piece_zeros(&call->pieces[PIECE_SPAN], 8);
+        piece_zeros(&call->pieces[PIECE_SPAN], SPAN_BYTES);
         return;
     }
     piece_zeros(&call->pieces[PIECE_REPORT], IND_REPORT_BYTES);
@@ -111,7 +129,7 @@ uint64_t call_span(const struct call *call)
 {
     const uint8_t *bytes = call->pieces[PIECE_SPAN].bytes;
 
-    return get_word(bytes) | (uint64_t)get_word(bytes + 4) << 32;
+    return get_word(bytes) | (uint64_t)get_word(bytes + WORD) << 32;
 }
 
 uint32_t call_answer(const struct call *call)

@@ -17,9 +17,14 @@ enum call_piece {
     PIECES
 };
 
-enum { GUARD = 16 }; /* bytes watched behind a piece */
+enum {
+    GUARD = 16,       /* bytes watched behind a piece */
+    ROOM_BESIDE = 64, /* bytes that a piece may have more than a device takes */
+    PIPE_ROOM_BESIDE = 1028
+};
 
 struct piece {
+    const char *name;
     uint8_t *bytes; /* GUARD bytes stand behind the last */
     size_t length, most;
 };
@@ -41,11 +46,14 @@ typedef uint32_t turn_call(uint8_t *, size_t, uint8_t *, size_t,
 struct call *call_new(void);
 void call_free(struct call *call);
 
-/* Gives a piece a length and zeros. Longer than it may be: as long as that. */
+/* A piece that has no room for its bytes ends the program: a call that was cut
+ * would be another call, and refused by both sides alike. */
+
+/* Gives a piece a length and zeros. */
 void piece_zeros(struct piece *piece, size_t length);
 /* Moves its end; its bytes up to there stand as they are. */
 void piece_end(struct piece *piece, size_t length);
-/* Adds bytes at its end, as far as there is room. */
+/* Adds bytes at its end. */
 void piece_add(struct piece *piece, const uint8_t *bytes, size_t count);
 void piece_add_word(struct piece *piece, uint32_t word);
 

@@ -2,7 +2,7 @@
 
 #include "cases/commands.h"
 #include "cases/draw.h"
-#include "image.h"
+#include "device/image.h"
 
 const char *const case_names[CASE_KINDS] = {
     "fresh", "structured", "edged", "damaged"
@@ -54,21 +54,27 @@ enum case_kind draw_case(struct call *call, uint64_t seed, uint64_t number)
     return CASE_DAMAGED;
 }
 
+/* Near the length that the piece has to have, or any. */
+static void draw_length(struct piece *piece, struct chance *c, uint32_t right)
+{
+    uint32_t length = mille(c, 300) ? below(c, right + ROOM_BESIDE + 1)
+                                    : right - WORD + below(c, 2 * WORD + 1);
+
+    piece_zeros(piece, length);
+}
+
 void draw_lengths(struct call *call, uint64_t seed, uint64_t number)
 {
-    static const uint8_t wrong[8] = { 0, 1, 23, 25, 28, 31, 33, 36 };
     struct chance c = case_chance(~seed, number);
 
     if (!mille(&c, 40))
         return;
-    if (mille(&c, 500)) {
-        uint32_t length = mille(&c, 300) ? below(&c, 401)
-                                         : IND_IMAGE_BYTES - 4 + below(&c, 9);
-        piece_zeros(&call->pieces[PIECE_DEVICE], length);
-    }
-    if (mille(&c, 700)) {
-        enum call_piece other = call->kind == CALL_FRESH ? PIECE_WINDOWS
-                                                         : PIECE_REPORT;
-        piece_zeros(&call->pieces[other], wrong[below(&c, 8)]);
-    }
+    if (mille(&c, 500))
+        draw_length(&call->pieces[PIECE_DEVICE], &c, IND_IMAGE_BYTES);
+    if (!mille(&c, 700))
+        return;
+    if (call->kind == CALL_FRESH)
+        draw_length(&call->pieces[PIECE_WINDOWS], &c, IND_WINDOWS_BYTES);
+    else
+        draw_length(&call->pieces[PIECE_REPORT], &c, IND_REPORT_BYTES);
 }

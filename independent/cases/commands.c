@@ -39,7 +39,7 @@ static uint32_t address_for(struct scene *s, uint32_t length, uint64_t bytes)
 
 static uint32_t len_for(struct scene *s, uint32_t length)
 {
-    uint32_t words = lesser(length / 4, 255);
+    uint32_t words = lesser(length / WORD, IND_LEN_MOST);
 
     if (s->len != ANY)
         return (uint32_t)s->len;
@@ -48,11 +48,11 @@ static uint32_t len_for(struct scene *s, uint32_t length)
         case 0:
             return 0;
         case 1:
-            return 255;
+            return IND_LEN_MOST;
         case 2:
             return words;
         case 3:
-            return lesser(words + 1, 255);
+            return lesser(words + 1, IND_LEN_MOST);
         default:
             return below(s->c, 20);
         }
@@ -63,7 +63,7 @@ static uint32_t len_for(struct scene *s, uint32_t length)
 /* A width and a height that fit, or miss by one. */
 static struct ind_size size_for(struct scene *s, const struct ind_ring *ring)
 {
-    static const uint32_t high[4] = { 0, 0, 1, 65535 };
+    static const uint32_t high[4] = { 0, 0, 1, IND_EXTENT_MOST };
     uint32_t stride = ring->frame.held != 0 ? ring->frame.stride : 16;
     struct ind_size size = { 1 + below(s->c, lesser(stride / 4, 6)), 1 };
 
@@ -76,7 +76,7 @@ static struct ind_size size_for(struct scene *s, const struct ind_ring *ring)
     if (odd(s))
         size.height = below(s->c, 2) == 0 ? high[below(s->c, 4)]
                                           : rows + below(s->c, 2);
-    size.height = lesser(size.height, 65535);
+    size.height = lesser(size.height, IND_EXTENT_MOST);
     if (odd(s) && mille(s->c, 150)) { /* too wide, but empty */
         size.width = stride / 4 + 1;
         size.height = 0;
@@ -86,7 +86,10 @@ static struct ind_size size_for(struct scene *s, const struct ind_ring *ring)
 
 static uint32_t side_for(struct scene *s, uint32_t most)
 {
-    static const uint32_t sides[8] = { 0, 1, 64, 65, 63, 2, 66, 0xFFFFFFFF };
+    static const uint32_t sides[8] = {
+        0, 1, IND_SIDE_MOST, IND_SIDE_MOST + 1, IND_SIDE_MOST - 1, 2,
+        IND_SIDE_MOST + 2, 0xFFFFFFFF
+    };
 
     if (most == IND_SIDE_MOST && mille(s->c, 300))
         return most;
@@ -107,7 +110,7 @@ static void ask_transfer(struct scene *s, const struct ind_ring *ring,
     uint64_t bytes;
 
     command->len = len_for(s, length);
-    bytes = (uint64_t)4 * command->len;
+    bytes = (uint64_t)WORD * command->len;
     command->arg0 = address_for(s, length, bytes);
     if (command->opcode == COPY_BUFFER) {
         command->arg1 = address_for(s, length, bytes);
@@ -167,7 +170,8 @@ static void ask_frame(struct scene *s, const struct ind_ring *ring,
                       struct ind_command *command)
 {
     static const uint32_t strides[8] = {
-        0, 2, 6, 4, 65532, 65536, 65540, 0x80000004
+        0, 2, 6, IND_STRIDE_LEAST, IND_STRIDE_MOST - 4, IND_STRIDE_MOST,
+        IND_STRIDE_MOST + 4, 0x80000004
     };
     struct ind_frame frame = draw_frame(s, ring->window_length);
 
@@ -210,7 +214,7 @@ static void ask_work(struct scene *s, uint32_t number,
     if (command->len == 0 && mille(s->c, 100)) /* a len that means nothing */
         command->len = command->opcode == WRITE_MEM
             || command->opcode == READ_MEM || command->opcode == COPY_BUFFER
-            ? 0 : below(s->c, 256);
+            ? 0 : below(s->c, IND_LEN_MOST + 1);
 }
 
 /* ---- flags, slot and target ---- */
@@ -246,7 +250,7 @@ void spoil_header(struct scene *s, struct ind_command *command)
     static const uint8_t strangers[12] = {
         0x00, 0x03, 0x0F, 0x12, 0x13, 0x21, 0x24, 0x31, 0x40, 0x42, 0x81, 0xFF
     };
-    static const uint8_t slots[4] = { 64, 65, 128, 255 };
+    static const uint8_t slots[4] = { IND_SLOTS, IND_SLOTS + 1, 128, 255 };
     uint32_t faults = 1 + below(s->c, 15); /* one bit for each of 1 to 4 */
 
     if (mille(s->c, 500))
@@ -301,7 +305,7 @@ uint32_t add_command(struct scene *s, uint32_t ring,
 {
     struct piece *piece = &s->call->pieces[PIECE_RING + ring];
     size_t before = piece->length;
-    uint8_t payload[4 * 255];
+    uint8_t payload[WORD * IND_LEN_MOST];
 
     piece_add_word(piece, command->opcode | command->flags << 8
                    | command->rdst << 16 | command->len << 24);
@@ -311,8 +315,8 @@ uint32_t add_command(struct scene *s, uint32_t ring,
     if (command->flags & FLAG_WAIT)
         piece_add_word(piece, command->target);
     if (command->flags & FLAG_PAYLOAD) {
-        edge_bytes(s->c, payload, (size_t)4 * command->len);
-        piece_add(piece, payload, (size_t)4 * command->len);
+        edge_bytes(s->c, payload, (size_t)WORD * command->len);
+        piece_add(piece, payload, (size_t)WORD * command->len);
     }
     return (uint32_t)(piece->length - before);
 }

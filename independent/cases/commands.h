@@ -4,7 +4,7 @@
 #define COMMANDS_H
 
 #include "cases/scene.h"
-#include "parts.h"
+#include "device/parts.h"
 
 /* A command for this ring that waits for nothing that is not there. */
 struct ind_command draw_command(struct scene *s, uint32_t ring, int opcode);

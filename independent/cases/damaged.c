@@ -1,18 +1,21 @@
 /* Turns with bytes changed, and turns of any bytes. */
 #include "cases/commands.h"
 #include "cases/draw.h"
-#include "image.h"
-#include "kernels/packs.h"
+#include "cases/kernels/packs.h"
+#include "cases/words.h"
+#include "device/image.h"
+
+enum { ONE_KERNEL_HEAD = IND_PACK_LEAST + IND_PAIR_BYTES }; /* bytes */
 
 static void damage_image(struct call *call, struct chance *c)
 {
-    uint32_t words = mille(c, 700) ? RING_WORDS * IND_RINGS : IMAGE_WORDS;
+    uint32_t words = mille(c, 700) ? IND_IMAGE_SLOTS : IND_IMAGE_WORDS;
     uint8_t *word = image_word(call, 0, below(c, words));
 
     if (mille(c, 500)) {
         put_word(word, edge_word(c));
     } else {
-        uint32_t at = below(c, 4);
+        uint32_t at = below(c, WORD);
         word[at] ^= (uint8_t)(1u << below(c, 8));
     }
 }
@@ -22,9 +25,9 @@ static void damage_ring(struct call *call, struct chance *c)
 {
     uint32_t number = below(c, IND_RINGS);
     struct piece *ring = &call->pieces[PIECE_RING + number];
-    size_t at = get_word(image_word(call, number, CURSOR));
+    size_t at = get_word(image_word(call, number, IND_IMAGE_CURSOR));
 
-    at += below(c, 24);
+    at += below(c, IND_HEADER_BYTES + 2 * WORD);
     if (at >= ring->length)
         return;
     if (mille(c, 500))
@@ -53,8 +56,9 @@ static void damage_code(struct call *call, struct chance *c)
 {
     struct piece *pack = &call->pieces[PIECE_PACK];
 
-    if (pack->length >= 24 && mille(c, 700)) {
-        size_t at = 16 + below(c, (uint32_t)pack->length - 16);
+    if (pack->length >= ONE_KERNEL_HEAD + 2 * WORD && mille(c, 700)) {
+        size_t at = ONE_KERNEL_HEAD
+            + below(c, (uint32_t)pack->length - ONE_KERNEL_HEAD);
         pack->bytes[at] ^= (uint8_t)(1u << below(c, 8));
     } else {
         piece_end(pack, damage_pack(c, pack->bytes, (uint32_t)pack->length));
@@ -77,7 +81,7 @@ static void scramble_rings(struct call *call, struct chance *c)
 
     for (uint32_t i = 0; i < IND_RINGS; i++) {
         struct piece *ring = &call->pieces[PIECE_RING + i];
-        uint32_t cursor = get_word(image_word(call, i, CURSOR));
+        uint32_t cursor = get_word(image_word(call, i, IND_IMAGE_CURSOR));
         uint32_t count = below(c, sizeof noise + 1);
         edge_bytes(c, noise, count);
         if (count > 1 && mille(c, 600)) {
@@ -107,17 +111,20 @@ static void draw_noise(struct call *call, struct chance *c)
     for (uint32_t i = 0; i < IND_RINGS; i++)
         any_bytes(&call->pieces[PIECE_RING + i], c, 60);
     any_bytes(&call->pieces[PIECE_PACK], c, 60);
-    piece_zeros(&call->pieces[PIECE_PIPE], 1010 + below(c, 20));
+    piece_zeros(&call->pieces[PIECE_PIPE], IND_PIPE_LEAST - 10 + below(c, 20));
     edge_bytes(c, call->pieces[PIECE_DEVICE].bytes, IND_IMAGE_BYTES);
     for (uint32_t i = 0; i < IND_RINGS; i++) {
-        uint8_t *ring = image_word(call, i, 0);
-        for (uint32_t at = 0; at < 8 && (ways & 1); at++)
-            ring[at] = 0;
-        for (uint32_t at = 8; at < 16 && (ways & 2); at++)
-            ring[at] = 0;
+        if (ways & 1) {
+            put_word(image_word(call, i, IND_IMAGE_WINDOW_START), 0);
+            put_word(image_word(call, i, IND_IMAGE_WINDOW_LENGTH), 0);
+        }
+        if (ways & 2) {
+            put_word(image_word(call, i, IND_IMAGE_CURSOR), 0);
+            put_word(image_word(call, i, IND_IMAGE_HELD), 0);
+        }
     }
     if (ways & 4)
-        put_word(image_word(call, 0, MARKER), below(c, IND_RINGS));
+        put_word(image_word(call, 0, IND_IMAGE_MARKER), below(c, IND_RINGS));
 }
 
 void draw_damaged(struct call *call, struct chance *c)

@@ -3,8 +3,8 @@
 #define DRAW_H
 
 #include "cases/call.h"
+#include "cases/kernels/chance.h"
 #include "cases/scene.h"
-#include "kernels/chance.h"
 
 void draw_fresh(struct call *call, struct chance *c);
 void draw_structured(struct call *call, struct chance *c);
@@ -17,12 +17,8 @@ void draw_turn(struct scene *s, uint32_t memory_len);
 /* Gives a turn one to three reasons to be refused, or near misses of them. */
 void spoil_call(struct call *call, struct chance *c);
 
-/* Words of a ring in the image; the marker's number counts from ring 0. */
-enum {
-    WINDOW_START, WINDOW_LENGTH, CURSOR, HELD, BASE, STRIDE, FORMAT,
-    RING_WORDS, MARKER = 92, IMAGE_WORDS
-};
-
+/* A word of a ring in the image; what stands behind the rings counts from
+ * ring 0. */
 uint8_t *image_word(struct call *call, uint32_t ring, uint32_t word);
 
 /* The numbers that a case is drawn from. */

@@ -1,32 +1,40 @@
 /* Turns at an edge of what the page allows. */
 #include "cases/commands.h"
 #include "cases/draw.h"
-#include "kernels/packs.h"
+#include "cases/words.h"
+#include "device/image.h"
+
+enum {
+    HEADER = IND_HEADER_BYTES,
+    FRAME_BYTES = WORD * (IND_IMAGE_FORMAT - IND_IMAGE_BASE + 1)
+};
 
 /* Other numbers than 0 and 1 for held, and numbers of a frame not held: a
  * served turn writes them anew. */
 static void roughen_frames(struct call *call, struct chance *c)
 {
     for (uint32_t ring = 0; ring < IND_RINGS; ring++) {
-        uint8_t *held = image_word(call, ring, HELD);
+        uint8_t *held = image_word(call, ring, IND_IMAGE_HELD);
         if (mille(c, 500))
             continue;
         if (get_word(held) != 0)
             put_word(held, mille(c, 500) ? 7 : 0x80000000u);
         else
-            edge_bytes(c, held + 4, 12);
+            edge_bytes(c, image_word(call, ring, IND_IMAGE_BASE), FRAME_BYTES);
     }
 }
 
-/* Zeros to the end of a ring as long as it may be: 16 of them are a command
- * of an unknown opcode, fewer are none. */
+/* Zeros to the end of a ring as long as it may be: a header of them is a
+ * command of an unknown opcode, fewer are none. */
 static void far_cursor(struct call *call, struct chance *c)
 {
-    static const uint32_t left[5] = { 0, 15, 16, 17, 32 };
+    static const uint32_t left[5] = {
+        0, HEADER - 1, HEADER, HEADER + 1, 2 * HEADER
+    };
     uint32_t ring = below(c, IND_RINGS);
 
     piece_zeros(&call->pieces[PIECE_RING + ring], IND_RING_MOST);
-    put_word(image_word(call, ring, CURSOR),
+    put_word(image_word(call, ring, IND_IMAGE_CURSOR),
              IND_RING_MOST - left[below(c, 5)]);
 }
 
@@ -35,7 +43,7 @@ static void far_command(struct call *call, struct chance *c)
 {
     uint32_t number = below(c, IND_RINGS);
     struct piece *ring = &call->pieces[PIECE_RING + number];
-    uint8_t *cursor = image_word(call, number, CURSOR);
+    uint8_t *cursor = image_word(call, number, IND_IMAGE_CURSOR);
     uint8_t head[128];
     size_t length = ring->length;
 
@@ -53,9 +61,9 @@ static void near_cursor(struct call *call, struct chance *c)
 {
     uint32_t ring = below(c, IND_RINGS);
     uint32_t length = (uint32_t)call->pieces[PIECE_RING + ring].length;
-    uint32_t back = mille(c, 500) ? below(c, 21) : 16;
+    uint32_t back = mille(c, 500) ? below(c, HEADER + WORD + 1) : HEADER;
 
-    put_word(image_word(call, ring, CURSOR),
+    put_word(image_word(call, ring, IND_IMAGE_CURSOR),
              length - (back < length ? back : length));
 }
 
@@ -96,11 +104,11 @@ static enum theme any_theme(struct chance *c)
     return (enum theme)theme;
 }
 
+static const uint8_t transfers[3] = { WRITE_MEM, READ_MEM, COPY_BUFFER };
+
 /* Sets wishes by a theme; gives the memory's length, or 0 for any. */
 static uint32_t wish(struct scene *s)
 {
-    static const uint8_t transfers[3] = { WRITE_MEM, READ_MEM, COPY_BUFFER };
-
     switch (any_theme(s->c)) {
     case THEME_STEPS: /* the last that there are */
         s->opcode = DISPATCH_1D;
@@ -118,10 +126,10 @@ static uint32_t wish(struct scene *s)
         s->full = 900;
         s->odd = mille(s->c, 500) ? 100 : 500;
         return 0;
-    case THEME_LEN: /* 255 words, which fit or just don't, or none */
+    case THEME_LEN: /* the most words, which fit or just don't, or none */
         s->opcode = transfers[below(s->c, 3)];
-        s->len = mille(s->c, 500) ? 255 : 0;
-        return s->len != 0 ? 1016 + 4 * below(s->c, 15) : 0;
+        s->len = mille(s->c, 500) ? IND_LEN_MOST : 0;
+        return s->len != 0 ? WORD * (IND_LEN_MOST - 1 + below(s->c, 15)) : 0;
     case THEME_TRANSFERS:
         s->opcode = transfers[below(s->c, 3)];
         return 0;

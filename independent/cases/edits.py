@@ -1,7 +1,7 @@
 """Errors to make in the independent device's commands and calls: the file, what it is, old text and new text in turn."""
 edits = [
     ("command", "the target is counted in len", "(pays ? WORD * command->len : 0)", "(pays ? WORD * (command->len - (waits && command->len > 0)) : 0)"),
-    ("command", "the target stands behind the payload", "uint32_t payload_at = HEADER_BYTES + (waits ? WORD : 0);\n    command->size = payload_at + (pays ? WORD * command->len : 0);", "uint32_t payload_at = HEADER_BYTES;\n    command->size = payload_at + (waits ? WORD : 0) + (pays ? WORD * command->len : 0);", "command->target = ind_get(ring + cursor + HEADER_BYTES, WORD);", "command->target = ind_get(ring + cursor + command->size - WORD, WORD);"),
+    ("command", "the target stands behind the payload", "uint32_t payload_at = IND_HEADER_BYTES + (waits ? WORD : 0);\n    command->size = payload_at + (pays ? WORD * command->len : 0);", "uint32_t payload_at = IND_HEADER_BYTES;\n    command->size = payload_at + (waits ? WORD : 0) + (pays ? WORD * command->len : 0);", "command->target = ind_get(ring + cursor + IND_HEADER_BYTES, WORD);", "command->target = ind_get(ring + cursor + command->size - WORD, WORD);"),
     ("command", "a command that ends with the ring is not whole", "if (left < command->size)", "if (left <= command->size)"),
     ("command", "a payload cut short is whole", "if (left < command->size)\n        return 0;", "if (left < payload_at)\n        return 0;\n    if (left < command->size)\n        command->size = (uint32_t)left, command->len = (command->size - payload_at) / 4;"),
     ("command", "bit 4 is not reserved", "(command->flags & FLAGS_RESERVED) != 0", "(command->flags & 0xE0) != 0"),
@@ -21,10 +21,10 @@ edits = [
     ("faults", "a stride not in fours", "if (!ind_is_four(frame->base) || !ind_is_four(frame->stride))", "if (!ind_is_four(frame->base))"),
     ("faults", "a base not in fours", "if (!ind_is_four(frame->base) || !ind_is_four(frame->stride))", "if (!ind_is_four(frame->stride))"),
     ("faults", "a base at the window's end", "frame->base >= window_length", "frame->base > window_length"),
-    ("faults", "9 before 8", "    if (frame->base >= window_length)\n        return IND_OUTSIDE_WINDOW;\n    if (frame->stride < STRIDE_LEAST || frame->stride > STRIDE_MOST\n        || frame->format != 0)\n        return IND_BAD_FRAME;", "    if (frame->stride < STRIDE_LEAST || frame->stride > STRIDE_MOST\n        || frame->format != 0)\n        return IND_BAD_FRAME;\n    if (frame->base >= window_length)\n        return IND_OUTSIDE_WINDOW;"),
-    ("faults", "stride 0", "frame->stride < STRIDE_LEAST || ", ""),
-    ("faults", "stride 65,536 too much", "frame->stride > STRIDE_MOST", "frame->stride >= STRIDE_MOST"),
-    ("faults", "stride 65,540", "frame->stride > STRIDE_MOST", "frame->stride > STRIDE_MOST + 4"),
+    ("faults", "9 before 8", "    if (frame->base >= window_length)\n        return IND_OUTSIDE_WINDOW;\n    if (frame->stride < IND_STRIDE_LEAST || frame->stride > IND_STRIDE_MOST\n        || frame->format != 0)\n        return IND_BAD_FRAME;", "    if (frame->stride < IND_STRIDE_LEAST || frame->stride > IND_STRIDE_MOST\n        || frame->format != 0)\n        return IND_BAD_FRAME;\n    if (frame->base >= window_length)\n        return IND_OUTSIDE_WINDOW;"),
+    ("faults", "stride 0", "frame->stride < IND_STRIDE_LEAST || ", ""),
+    ("faults", "stride 65,536 too much", "frame->stride > IND_STRIDE_MOST", "frame->stride >= IND_STRIDE_MOST"),
+    ("faults", "stride 65,540", "frame->stride > IND_STRIDE_MOST", "frame->stride > IND_STRIDE_MOST + 4"),
     ("faults", "format 1", "frame->format != 0", "frame->format > 1"),
     ("faults", "7 before 6", "    if (!addresses_in_fours(command))\n        return IND_NOT_FOURS;\n    if (ring->frame.held == 0)\n        return IND_NO_FRAME_ROOM;", "    if (ring->frame.held == 0)\n        return IND_NO_FRAME_ROOM;\n    if (!addresses_in_fours(command))\n        return IND_NOT_FOURS;"),
     ("faults", "no frame, no matter when empty", "    if (ring->frame.held == 0)\n        return IND_NO_FRAME_ROOM;\n    if (size.width == 0 || size.height == 0)\n        return IND_DONE; /* no bytes at all */", "    if (size.width == 0 || size.height == 0)\n        return IND_DONE;\n    if (ring->frame.held == 0)\n        return IND_NO_FRAME_ROOM;"),

@@ -1,19 +1,19 @@
 /* Calls of fresh. */
 #include "cases/draw.h"
-#include "device.h"
-#include "kernels/packs.h"
+#include "cases/words.h"
+#include "device/parts.h"
 
 static uint64_t any_span(struct chance *c)
 {
     static const uint64_t spans[8] = {
-        0, 1048576, 1048577, 1048580, 0x100000000u, 0x100000040u,
-        UINT64_MAX, UINT64_MAX - 3
+        0, IND_MEMORY_MOST, IND_MEMORY_MOST + 1, IND_MEMORY_MOST + 4,
+        0x100000000u, 0x100000040u, UINT64_MAX, UINT64_MAX - 3
     };
 
     if (mille(c, 300))
         return spans[below(c, 8)];
     if (mille(c, 100))
-        return below(c, 1048640);
+        return below(c, IND_MEMORY_MOST + ROOM_BESIDE);
     return mille(c, 800) ? 4 * below(c, 513) : below(c, 2048);
 }
 
@@ -73,13 +73,13 @@ void draw_fresh(struct call *call, struct chance *c)
     call_start(call, CALL_FRESH);
     bytes = call->pieces[PIECE_SPAN].bytes;
     put_word(bytes, (uint32_t)span);
-    put_word(bytes + 4, (uint32_t)(span >> 32));
+    put_word(bytes + WORD, (uint32_t)(span >> 32));
     bytes = call->pieces[PIECE_WINDOWS].bytes;
     for (uint32_t i = 0; i < IND_RINGS; i++) {
         uint32_t pair[2];
         any_window(c, span, pair);
-        put_word(bytes + 8 * i, pair[0]);
-        put_word(bytes + 8 * i + 4, pair[1]);
+        put_word(bytes + IND_PAIR_BYTES * i, pair[0]);
+        put_word(bytes + IND_PAIR_BYTES * i + WORD, pair[1]);
     }
     struct piece *image = &call->pieces[PIECE_DEVICE];
     edge_bytes(c, image->bytes, mille(c, 200) ? image->length : below(c, 60));

@@ -2,11 +2,22 @@
 
 #include "cases/commands.h"
 #include "cases/draw.h"
-#include "job.h"
-#include "kernels/packs.h"
+#include "cases/kernels/packs.h"
+#include "cases/words.h"
+#include "device/image.h"
+#include "device/job.h"
 
-static uint8_t room[JOB_MOST + GUARD];
-static struct piece input = { room, 0, JOB_MOST };
+enum {
+    COUNTS_BYTES = WORD * (1 + IND_RINGS + 1), /* windows, rings, memory */
+    /* A draw may lay much more than an input may have: the rest is cut off. */
+    LAID_MOST = COUNTS_BYTES + IND_WINDOWS_BYTES
+              + IND_RINGS * (IND_RING_MOST + ROOM_BESIDE) + PACK_MOST
+              + WORD * (IND_JOB_WORDS_MOST + 1),
+    JOB_MOST = IND_INPUT_MOST + ROOM_BESIDE
+};
+
+static uint8_t room[LAID_MOST + GUARD];
+static struct piece input = { "input", room, 0, LAID_MOST };
 
 /* ---- rings whose commands are all served in the end ---- */
 
@@ -140,24 +151,24 @@ static void fill_up(struct scene *s, size_t length)
     struct piece *pack = &s->call->pieces[PIECE_PACK];
     struct piece *ring = &s->call->pieces[PIECE_RING + 3];
     size_t most = IND_INPUT_MOST - 1 + below(s->c, 3);
-    uint8_t *count = pack->bytes + 4 + (size_t)8 * s->kernels;
+    uint8_t *count = pack->bytes + WORD + (size_t)IND_PAIR_BYTES * s->kernels;
 
     if (length >= most)
         return;
-    uint32_t words = (uint32_t)(most - length) / 4;
+    uint32_t words = (uint32_t)(most - length) / WORD;
     if (get_word(count) + words > IND_CODE_MOST)
         return;
     put_word(count, get_word(count) + words);
     for (uint32_t i = 0; i < words; i++)
         piece_add_word(pack, 0);
-    piece_add(ring, (const uint8_t *)"\0\0\0", (most - length) % 4);
+    piece_add(ring, (const uint8_t *)"\0\0\0", (most - length) % WORD);
 }
 
 /* ---- the input ---- */
 
 static size_t input_length(const struct call *call)
 {
-    size_t length = 4 + 32 + 4 * 4 + 4;
+    size_t length = COUNTS_BYTES + IND_WINDOWS_BYTES;
 
     for (int i = PIECE_MEMORY; i <= PIECE_PACK; i++)
         length += call->pieces[i].length;
@@ -189,13 +200,15 @@ static void lay_input(struct scene *s, int odd_counts)
     for (uint32_t i = 0; i < IND_RINGS; i++) {
         uint32_t count = (uint32_t)pieces[PIECE_RING + i].length;
         if (odd_counts && mille(s->c, 150))
-            count = mille(s->c, 500) ? 61440 : edge_word(s->c);
+            count = mille(s->c, 500) ? IND_INPUT_MOST : edge_word(s->c);
         piece_add_word(&input, count);
         add_piece(&pieces[PIECE_RING + i]);
     }
     add_piece(&pieces[PIECE_PACK]);
     piece_add_word(&input, words);
     add_piece(&pieces[PIECE_MEMORY]);
+    if (input.length > JOB_MOST)
+        piece_end(&input, JOB_MOST);
 }
 
 static void draw_edged_job(struct scene *s)

@@ -5,8 +5,6 @@
 
 #include "cases/call.h"
 
-enum { JOB_MOST = 61440 + 64 }; /* bytes, some of them too many */
-
 /* The input stands until the next is drawn. */
 const struct piece *draw_job(uint64_t seed, uint64_t number);
 

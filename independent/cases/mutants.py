@@ -9,7 +9,7 @@ top = os.path.dirname(here)
 cc = os.environ.get("CC", "gcc")
 patience = 60
 unseen = ["WFI is no step"]  # it ends its thread, so no call can tell
-device = ["words", "memory", "pack", "decode", "compute", "kernel", "command", "faults", "work", "device", "image"]
+device = os.path.join(top, "device")
 
 
 def stop(text):
@@ -25,7 +25,7 @@ def edits_of(folder):
 
 
 def edited(name, label, pairs):
-    with open(os.path.join(top, name + ".c")) as source:
+    with open(os.path.join(device, name + ".c")) as source:
         text = source.read()
     for old, new in zip(pairs[::2], pairs[1::2]):
         if text.count(old) != 1:
@@ -34,10 +34,13 @@ def edited(name, label, pairs):
     return text
 
 
-def other_objects():
-    return [os.path.join(folder, f) for folder, _, files in os.walk(os.path.join(top, "build")) for f in sorted(files)
-            if f.endswith(".o") and f != "jobs.o"
-            and (os.path.basename(folder) in ("cases", "kernels") or f in ("records.o", "recordcheck.o"))]
+def other_objects(name):
+    """Those that recordcheck is built from, but for the device's file of that name."""
+    left_out = [os.path.join(device, f + ".c") for f in (name, "job", "replay")]
+    left_out.append(os.path.join(top, "records", "record.c"))
+    sources = [os.path.join(folder, f) for part in ("device", "cases", "records")
+               for folder, _, files in os.walk(os.path.join(top, part)) for f in sorted(files) if f.endswith(".c")]
+    return [os.path.join(top, "build", os.path.relpath(s, top))[:-1] + "o" for s in sources if s not in left_out]
 
 
 def recordcheck(work, name, text):
@@ -45,8 +48,7 @@ def recordcheck(work, name, text):
     source, program = os.path.join(work, name + ".c"), os.path.join(work, "recordcheck")
     with open(source, "w") as out:
         out.write(text)
-    objects = [os.path.join(top, "build", d + ".o") for d in device if d != name] + other_objects()
-    built = subprocess.run([cc, "-std=c11", "-O2", "-w", "-I", top, source] + objects + ["-o", program])
+    built = subprocess.run([cc, "-std=c11", "-O2", "-w", "-I", device, source] + other_objects(name) + ["-o", program])
     if built.returncode != 0:
         stop("recordcheck could not be built; make comes first")
     return program
@@ -73,7 +75,7 @@ def not_seen(work, records, edits):
 
 
 def main(records=None, *labels):
-    edits = [e for e in edits_of(here) + edits_of(os.path.join(top, "kernels")) if e[1] not in unseen]
+    edits = [e for e in edits_of(here) + edits_of(os.path.join(here, "kernels")) if e[1] not in unseen]
     if records is None or not os.path.isfile(records) or not all(any(l in e[1] for e in edits) for l in labels):
         stop("usage: mutants.py FILE [LABEL..], with a file of records and parts of labels")
     if labels:

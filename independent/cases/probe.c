@@ -1,7 +1,7 @@
 /* A kernel that tells of the window's content by its outcome: the replay job
  * prints no data, so nothing else would. */
+#include "cases/kernels/table.h"
 #include "cases/scene.h"
-#include "kernels/table.h"
 
 enum { LOOP_STEPS = 6, WORDS_MOST = (IND_STEP_LIMIT - 20) / LOOP_STEPS };
 

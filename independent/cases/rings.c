@@ -1,17 +1,19 @@
 /* The rings of a scene. */
 #include "cases/commands.h"
 
+enum { HEADER = IND_HEADER_BYTES, NOISE_MOST = 40 }; /* bytes */
+
 /* What was taken before: whole commands' worth of bytes, or any number. */
 static uint32_t any_cursor(struct scene *s)
 {
     switch (below(s->c, 8)) {
     case 0:
     case 1:
-        return 16 * (1 + below(s->c, 2));
+        return HEADER * (1 + below(s->c, 2));
     case 2:
-        return 20 + 16 * below(s->c, 2);
+        return HEADER + WORD + HEADER * below(s->c, 2);
     case 3:
-        return below(s->c, 40);
+        return below(s->c, NOISE_MOST);
     default:
         return 0;
     }
@@ -19,7 +21,7 @@ static uint32_t any_cursor(struct scene *s)
 
 static void add_noise(struct scene *s, uint32_t ring, uint32_t count)
 {
-    uint8_t noise[64];
+    uint8_t noise[NOISE_MOST];
 
     edge_bytes(s->c, noise, count);
     piece_add(&s->call->pieces[PIECE_RING + ring], noise, count);

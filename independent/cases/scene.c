@@ -2,8 +2,8 @@
 
 #include <string.h>
 
-#include "image.h"
-#include "parts.h"
+#include "device/image.h"
+#include "device/parts.h"
 
 void scene_start(struct scene *s, struct call *call, struct chance *c,
                  uint32_t odd_mille)
@@ -82,7 +82,9 @@ struct ind_frame draw_frame(struct scene *s, uint32_t window_length)
     frame.base = 4 * below(s->c, window_length / 4);
     frame.stride = 4 + 4 * below(s->c, 12);
     if (odd(s)) {
-        static const uint32_t strides[4] = { 4, 8, 65532, 65536 };
+        static const uint32_t strides[4] = {
+            IND_STRIDE_LEAST, 8, IND_STRIDE_MOST - 4, IND_STRIDE_MOST
+        };
         frame.stride = strides[below(s->c, 4)];
         frame.base = mille(s->c, 500) ? 0 : window_length - 4;
     }
@@ -162,7 +164,7 @@ void draw_pipe(struct scene *s)
     uint32_t length = IND_PIPE_LEAST;
 
     if (mille(s->c, 100))
-        length += below(s->c, 1029);
+        length += below(s->c, PIPE_ROOM_BESIDE + 1);
     piece_zeros(pipe, length);
     edge_bytes(s->c, pipe->bytes, mille(s->c, 15) ? length : below(s->c, 16));
 }

@@ -3,8 +3,8 @@
 #define SCENE_H
 
 #include "cases/call.h"
-#include "device.h"
-#include "kernels/styles.h"
+#include "cases/kernels/styles.h"
+#include "device/device.h"
 
 /* What a ring's head command is. */
 enum head {

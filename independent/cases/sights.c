@@ -2,7 +2,7 @@
 
 #include <string.h>
 
-#include "image.h"
+#include "device/image.h"
 
 const char *const sight_names[SIGHTS] = {
     [SEEN_FENCE] = "a fence reported",
@@ -80,17 +80,17 @@ static void see_transfer(const struct served *v, uint64_t *counts)
 {
     const struct ind_command *command = &v->command;
     uint32_t outcome = v->report.outcome;
-    uint64_t end = (uint64_t)command->arg0 + 4 * command->len;
+    uint64_t end = (uint64_t)command->arg0 + WORD * command->len;
     uint64_t length = v->device.rings[v->report.ring].window_length;
     int done = outcome == IND_DONE;
 
     counts[SEEN_LEN_0] += done && command->len == 0;
     counts[SEEN_LEN_0_OUTSIDE] += outcome == IND_OUTSIDE_WINDOW
         && command->len == 0;
-    counts[SEEN_LEN_255] += done && command->len == 255;
+    counts[SEEN_LEN_255] += done && command->len == IND_LEN_MOST;
     counts[SEEN_WINDOW_END] += done && end == length && command->len != 0;
     counts[SEEN_PAST_END] += outcome == IND_OUTSIDE_WINDOW
-        && end == length + 4 && command->len != 0;
+        && end == length + WORD && command->len != 0;
     counts[SEEN_WORDS] += v->report.words_read != 0;
 }
 
@@ -104,7 +104,7 @@ static void see_overlap(const struct served *v, uint64_t *counts)
         ? command->arg1 - command->arg0 : command->arg0 - command->arg1;
 
     counts[SEEN_OVERLAP] += v->report.outcome == IND_DONE && apart != 0
-        && apart < 4 * width;
+        && apart < WORD * width;
 }
 
 static void see_rectangle(const struct served *v, uint64_t *counts)
@@ -118,7 +118,7 @@ static void see_rectangle(const struct served *v, uint64_t *counts)
     counts[SEEN_EMPTY_FAULTY] += empty
         && (outcome == IND_NOT_FOURS || outcome == IND_NO_FRAME_ROOM);
     counts[SEEN_FULL_WIDTH] += !empty && outcome == IND_DONE
-        && 4 * size.width == stride;
+        && WORD * size.width == stride;
 }
 
 static void see_dispatch(const struct served *v, uint64_t *counts)

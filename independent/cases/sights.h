@@ -3,7 +3,7 @@
 #define SIGHTS_H
 
 #include "cases/call.h"
-#include "parts.h"
+#include "device/parts.h"
 
 struct served {
     const struct call *before, *after;

@@ -1,12 +1,14 @@
 /* Reasons for a call to be refused, and near misses of them. */
 #include "cases/draw.h"
-#include "device.h"
-#include "kernels/packs.h"
+#include "cases/kernels/packs.h"
+#include "cases/words.h"
+#include "device/image.h"
+#include "device/parts.h"
 
 uint8_t *image_word(struct call *call, uint32_t ring, uint32_t word)
 {
     return call->pieces[PIECE_DEVICE].bytes
-        + (size_t)4 * (RING_WORDS * ring + word);
+        + (size_t)WORD * (IND_IMAGE_RING_WORDS * ring + word);
 }
 
 static void spoil_memory(struct call *call, struct chance *c)
@@ -24,8 +26,8 @@ static void spoil_window(struct call *call, struct chance *c)
 {
     uint32_t ring = below(c, IND_RINGS);
     uint32_t end = (uint32_t)call->pieces[PIECE_MEMORY].length;
-    uint8_t *start = image_word(call, ring, WINDOW_START);
-    uint8_t *length = image_word(call, ring, WINDOW_LENGTH);
+    uint8_t *start = image_word(call, ring, IND_IMAGE_WINDOW_START);
+    uint8_t *length = image_word(call, ring, IND_IMAGE_WINDOW_LENGTH);
 
     switch (below(c, 7)) {
     case 0: /* not in fours, though inside */
@@ -58,20 +60,21 @@ static void spoil_marker(struct call *call, struct chance *c)
 {
     static const uint32_t markers[4] = { 3, 4, 5, 0xFFFFFFFF };
 
-    put_word(image_word(call, 0, MARKER), markers[below(c, 4)]);
+    put_word(image_word(call, 0, IND_IMAGE_MARKER), markers[below(c, 4)]);
 }
 
 static void spoil_cursor(struct call *call, struct chance *c)
 {
     static const uint32_t cursors[5] = {
-        65536, 65537, 65540, 0x80000000, 0xFFFFFFFF
+        IND_RING_MOST, IND_RING_MOST + 1, IND_RING_MOST + 4, 0x80000000,
+        0xFFFFFFFF
     };
     uint32_t ring = below(c, IND_RINGS);
     uint32_t value = cursors[below(c, 5)];
 
     if (mille(c, 500)) /* at the ring's end, or one past it */
         value = (uint32_t)call->pieces[PIECE_RING + ring].length + below(c, 2);
-    put_word(image_word(call, ring, CURSOR), value);
+    put_word(image_word(call, ring, IND_IMAGE_CURSOR), value);
 }
 
 /* A frame that is held, or not: then its numbers are not looked at. */
@@ -79,25 +82,27 @@ static void spoil_frame(struct call *call, struct chance *c)
 {
     static const uint32_t held[4] = { 0, 1, 7, 0xFFFFFFFF };
     static const uint32_t strides[8] = {
-        0, 2, 4, 8, 10, 65536, 65540, 0x80000000
+        0, 2, IND_STRIDE_LEAST, 8, 10, IND_STRIDE_MOST, IND_STRIDE_MOST + 4,
+        0x80000000
     };
     uint32_t ring = below(c, IND_RINGS);
-    uint32_t length = get_word(image_word(call, ring, WINDOW_LENGTH));
+    uint32_t length = get_word(image_word(call, ring, IND_IMAGE_WINDOW_LENGTH));
     uint32_t base = length - 4 + 4 * below(c, 2);
 
     if (mille(c, 300))
         base = mille(c, 500) ? 2 : edge_word(c);
-    put_word(image_word(call, ring, HELD), held[below(c, 4)]);
-    put_word(image_word(call, ring, BASE), mille(c, 500) ? 0 : base);
-    put_word(image_word(call, ring, STRIDE), strides[below(c, 8)]);
-    put_word(image_word(call, ring, FORMAT), mille(c, 700) ? 0 : edge_word(c));
+    put_word(image_word(call, ring, IND_IMAGE_HELD), held[below(c, 4)]);
+    put_word(image_word(call, ring, IND_IMAGE_BASE), mille(c, 500) ? 0 : base);
+    put_word(image_word(call, ring, IND_IMAGE_STRIDE), strides[below(c, 8)]);
+    put_word(image_word(call, ring, IND_IMAGE_FORMAT),
+             mille(c, 700) ? 0 : edge_word(c));
 }
 
 static void spoil_ring(struct call *call, struct chance *c)
 {
     uint32_t number = below(c, IND_RINGS);
     struct piece *ring = &call->pieces[PIECE_RING + number];
-    uint32_t cursor = get_word(image_word(call, number, CURSOR));
+    uint32_t cursor = get_word(image_word(call, number, IND_IMAGE_CURSOR));
 
     if (mille(c, 300)) /* just as long as it may be, or longer */
         piece_zeros(ring, IND_RING_MOST + (mille(c, 300) ? 0
@@ -108,7 +113,10 @@ static void spoil_ring(struct call *call, struct chance *c)
 
 static void spoil_pipe(struct call *call, struct chance *c)
 {
-    static const uint32_t lengths[6] = { 0, 4, 1016, 1019, 1020, 1021 };
+    static const uint32_t lengths[6] = {
+        0, 4, IND_PIPE_LEAST - 4, IND_PIPE_LEAST - 1, IND_PIPE_LEAST,
+        IND_PIPE_LEAST + 1
+    };
     struct piece *pipe = &call->pieces[PIECE_PIPE];
     uint32_t length = lengths[below(c, 6)];
 
@@ -119,8 +127,8 @@ static void spoil_pipe(struct call *call, struct chance *c)
 /* As many kernels and words as there may be, one fewer or one more. */
 static uint32_t limit_pack(struct chance *c, uint8_t *bytes)
 {
-    static const uint32_t code[IND_CODE_MOST + 1];
-    uint32_t first[IND_KERNELS_MOST + 1], words[IND_KERNELS_MOST + 1];
+    static const uint32_t code[PACK_CODE_MOST];
+    uint32_t first[PACK_KERNELS_MOST], words[PACK_KERNELS_MOST];
     uint32_t kernels = IND_KERNELS_MOST - 1 + below(c, 3);
     uint32_t total = IND_CODE_MOST - 1 + below(c, 3);
 

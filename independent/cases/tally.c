@@ -4,11 +4,11 @@
 #include <stdlib.h>
 #include <string.h>
 
+#include "cases/kernels/table.h"
 #include "cases/sights.h"
-#include "image.h"
-#include "kernels/table.h"
+#include "device/image.h"
 
-enum { OUTCOMES = 15, REFUSALS = 5, OPCODES = 8 };
+enum { REFUSALS = IND_REFUSED_PACK - IND_REFUSED_MEMORY + 1, OPCODES = 8 };
 
 static const struct {
     uint32_t opcode;
@@ -22,7 +22,7 @@ static const struct {
 
 static struct {
     uint64_t calls, fresh[2], idle, refused[REFUSALS], wrong[3];
-    uint64_t outcome[OUTCOMES], opcode_done[OPCODES], row[ROWS];
+    uint64_t outcome[IND_OUTCOMES], opcode_done[OPCODES], row[ROWS];
     uint64_t sight[SIGHTS], steps, most_steps;
 } count;
 
@@ -179,7 +179,7 @@ static int table_of(FILE *out)
     missing += lines(out, "refused %u", IND_REFUSED_MEMORY, count.refused,
                      REFUSALS);
     lines(out, "wrong length %u", IND_WRONG_IMAGE, count.wrong, 3);
-    missing += lines(out, "outcome %u", 0, count.outcome, OUTCOMES);
+    missing += lines(out, "outcome %u", 0, count.outcome, IND_OUTCOMES);
     title(out, "calls with outcome 0, by opcode");
     for (int i = 0; i < OPCODES; i++)
         missing += line(out, opcodes[i].name, count.opcode_done[i]);

@@ -5,13 +5,16 @@
 #include <stdlib.h>
 #include <string.h>
 
-#include "job.h"
+#include "cases/share.h"
+#include "device/device.h"
+#include "device/job.h"
 
-enum { REFUSALS = 10, OUTCOMES = 15, TURN_SPANS = 6 };
+enum { REFUSALS = 10, TURN_SPANS = 6 };
 
 static struct {
     uint64_t refused[REFUSALS], refused_101, idle[TURN_SPANS];
-    uint64_t turns, outcome[OUTCOMES], fences, reads, rings[4];
+    uint64_t turns, outcome[IND_OUTCOMES], fences, reads, rings[IND_RINGS];
+    struct share cases;
 } count;
 
 struct text output_wanted(const struct piece *input)
@@ -68,11 +71,19 @@ static void count_line(const char *line)
 void output_count(const struct text *text)
 {
     const char *at = text->bytes;
+    uint64_t before = count.turns;
 
     while (*at != '\0') {
         count_line(at);
         at = strchr(at, '\n') + 1;
     }
+    count.cases.all++;
+    count.cases.served += count.turns > before;
+}
+
+int outputs_enough(void)
+{
+    return share_enough(&count.cases, "cases", stdout);
 }
 
 static void line(uint64_t value, const char *name, uint32_t number)
@@ -94,9 +105,9 @@ void outputs_print(void)
         printf("  %10" PRIu64 " idle after %s turns\n", count.idle[i],
                spans[i]);
     printf("turns\n");
-    for (uint32_t i = 0; i < OUTCOMES; i++)
+    for (uint32_t i = 0; i < IND_OUTCOMES; i++)
         line(count.outcome[i], "outcome", i);
-    for (uint32_t i = 0; i < 4; i++)
+    for (uint32_t i = 0; i < IND_RINGS; i++)
         line(count.rings[i], "on ring", i);
     printf("  %10" PRIu64 " with a fence\n  %10" PRIu64 " with words read\n"
            "  %10" PRIu64 " in all\n", count.fences, count.reads, count.turns);

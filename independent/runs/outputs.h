@@ -20,4 +20,7 @@ void text_free(struct text *text);
 void output_count(const struct text *text);
 void outputs_print(void);
 
+/* Tells how many had a served turn; 0 if too few had one. */
+int outputs_enough(void);
+
 #endif

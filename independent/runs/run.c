@@ -102,6 +102,7 @@ int main(int argc, char **argv)
         return 2;
     }
     outputs_print();
+    int enough = outputs_enough();
     printf("%" PRIu64 " cases, %" PRIu64 " differ\n", cases, different);
-    return different != 0;
+    return different != 0 || !enough;
 }

@@ -10,7 +10,7 @@
 
 extern char **environ;
 
-static char folder[32] = "/tmp/run-XXXXXX";
+static char folder[] = "/tmp/run-XXXXXX";
 
 int runs_open(struct run *runs, int count)
 {

@@ -2,16 +2,26 @@
  * With MUTANT it makes one error, which the comparison has to tell. */
 #include <string.h>
 
-#include "image.h"
-#include "parts.h"
+#include "device/image.h"
+#include "device/parts.h"
 #include "whole/whole.h"
 
 #ifndef MUTANT
 #define MUTANT 0
 #endif
 
-enum { REPORT_RING = 4, REPORT_OUTCOME = 8, REPORT_FENCE = 12,
-       REPORT_WORDS = 16, REPORT_IRQ = 20, HELD = 12, MARKER = 368 };
+/* Where words stand, in bytes. */
+enum {
+    RING = WORD * IND_REPORT_RING,
+    OUTCOME = WORD * IND_REPORT_OUTCOME,
+    FENCE = WORD * IND_REPORT_FENCE,
+    WORDS_READ = WORD * IND_REPORT_WORDS_READ,
+    IRQ = WORD * IND_REPORT_IRQ,
+    RING_BYTES = WORD * IND_IMAGE_RING_WORDS,
+    HELD = WORD * IND_IMAGE_HELD,
+    FRAME_BYTES = WORD * (IND_IMAGE_FORMAT + 1) - HELD,
+    MARKER = WORD * IND_IMAGE_MARKER
+};
 
 /* A turn's pieces, after it and its image before it. */
 struct turned {
@@ -28,14 +38,14 @@ static void add(uint8_t *word, uint32_t more)
 /* Errors of a served turn. */
 static void err_served(struct turned *t)
 {
-    uint32_t outcome = ind_get(t->report + REPORT_OUTCOME, WORD);
-    uint32_t ring = ind_get(t->report + REPORT_RING, WORD);
-    size_t next = (size_t)IND_IMAGE_RING * ((ring + 1) % IND_RINGS);
+    uint32_t outcome = ind_get(t->report + OUTCOME, WORD);
+    uint32_t ring = ind_get(t->report + RING, WORD);
+    size_t next = (size_t)RING_BYTES * ((ring + 1) % IND_RINGS);
 
     switch (MUTANT) {
     case 1:
-        if (ind_get(t->report + REPORT_FENCE, WORD) != 0)
-            add(t->report + REPORT_FENCE, 1);
+        if (ind_get(t->report + FENCE, WORD) != 0)
+            add(t->report + FENCE, 1);
         break;
     case 2:
         if (t->memory_len > 0)
@@ -45,14 +55,14 @@ static void err_served(struct turned *t)
         t->pipe[t->pipe_len - 1] ^= 1;
         break;
     case 4:
-        t->report[REPORT_IRQ] ^= 1;
+        t->report[IRQ] ^= 1;
         break;
     case 5:
-        if (ind_get(t->report + REPORT_WORDS, WORD) != 0)
-            add(t->report + REPORT_WORDS, UINT32_MAX);
+        if (ind_get(t->report + WORDS_READ, WORD) != 0)
+            add(t->report + WORDS_READ, UINT32_MAX);
         break;
     case 6: /* the frame of another ring, not written anew */
-        memcpy(t->device + next + HELD, t->before + next + HELD, 16);
+        memcpy(t->device + next + HELD, t->before + next + HELD, FRAME_BYTES);
         break;
     case 7: /* a faulty header does not pass the turn on */
         if (outcome >= IND_NO_OPCODE && outcome <= IND_NO_SLOT)
@@ -82,7 +92,7 @@ static void err_unserved(struct turned *t)
         break;
     case 11: /* a refusal tells of a ring */
         if (!idle)
-            t->report[REPORT_RING] = 1;
+            t->report[RING] = 1;
         break;
     case 12: /* 103 and 104 in the wrong order */
         if (t->answer == IND_REFUSED_RING && t->pipe_len < IND_PIPE_LEAST) {

@@ -5,8 +5,9 @@
 
 #include "cases/cases.h"
 #include "cases/number.h"
+#include "cases/share.h"
 #include "cases/tally.h"
-#include "image.h"
+#include "device/image.h"
 #include "whole/whole.h"
 
 static void tell(uint64_t seed, uint64_t number, int piece,
@@ -27,8 +28,10 @@ int main(int argc, char **argv)
 {
     struct call *before = call_new(), *got = call_new(), *wanted = call_new();
     uint64_t count, seed, different = 0;
+    struct share share = { 0, 0 };
 
-    if (argc != 3 || !number_of(argv[1], &count) || !number_of(argv[2], &seed)) {
+    if (argc != 3 || !number_of(argv[1], &count)
+        || !number_of(argv[2], &seed)) {
         fprintf(stderr, "usage: whole COUNT SEED\n");
         return 2;
     }
@@ -40,15 +43,17 @@ int main(int argc, char **argv)
         call_make(got, fv_fresh, fv_turn);
         call_make(wanted, ind_fv_fresh, ind_fv_turn);
         tally_call(before, wanted);
+        share_call(&share, wanted);
         int piece = call_difference(got, wanted);
         different += piece >= 0;
         if (piece >= 0)
             tell(seed, n, piece, got, wanted);
     }
     tally_print(stdout);
+    int enough = share_enough(&share, "turns", stdout);
     printf("%" PRIu64 " calls, %" PRIu64 " differ\n", count, different);
     call_free(before);
     call_free(got);
     call_free(wanted);
-    return different != 0;
+    return different != 0 || !enough;
 }

@@ -6,7 +6,6 @@ use mathlib.Core.List.{List, [], _∷_, _++_}
 use Prim.Native.Nat.{ℕ, _^_, _<_}
 use native.Mathlib.Omega.{arith}
 use lib.Dec.{eqb, lit<}
-use lib.ListN.{length}
 use borrow.Author.Tests.{eqb-true, eqb-false}
 use Rattle.memory.proofs.Places.{word-fits}
 use Rattle.command.specs.declared.header.Command.{Command}
@@ -23,23 +22,19 @@ use Rattle.work.proofs.Performs.{performed-has}
 use Rattle.state.specs.declared.device.Window.{Window}
 use Rattle.state.specs.declared.device.Ring.{Ring}
 use Rattle.state.specs.declared.device.Device.{Device}
-use Rattle.state.specs.declared.refusal.Verdict.{Verdict}
-use Rattle.state.specs.declared.refusal.Verdict.the-variants.{Sound, Refused}
-use Rattle.state.specs.declared.ready.Picked.{Picked}
-use Rattle.state.specs.declared.ready.Picked.the-variants.{Ring as RingOf, Nobody}
 use Rattle.state.specs.Device.{Shaped, SlotsFit, emptyWindow, freshDevice, ringOf, slotOf, withRing, withMarker}
 use Rattle.state.specs.Refusal.{memoryFits}
-use Rattle.state.specs.Ready.{bytesOfRing, pickOf}
 use Rattle.device.specs.Fresh.{freshOf}
-use Rattle.device.specs.Turn.{Call, unchanged, ringAfter, deviceAfter, finished, servedOf, pickedOf, judgedOf, verdictOn, turnOf}
+use Rattle.device.specs.Turn.{ringIn, unchanged, ringAfter, deviceAfter, finished, servedOf}
 use Rattle.state.proofs.Seeks.{next-below}
-use Rattle.device.proofs.Verdicts.{each-of-four, servable}
+use Rattle.device.proofs.Verdicts.{each-of-four}
+use Rattle.device.proofs.Turns.{turn-cases, picked-servable}
 use Rattle.device.proofs.Wholes.{whole-inside}
-use Rattle.device.proofs.BytesLeft.{served-ring, other-ring}
+use Rattle.device.proofs.Untaken.{served-ring, other-ring}
 use Rattle.device.proofs.Shapes.{emit-fits, after-shaped, fresh-shaped}
 use Rattle.capi.specs.Image.{heldOf, baseOf, formatOf, ringWords, ringsWords, wordsOf, windowAt}
 use Rattle.capi.specs.Inverse.{OfBytes, Formed}
-use Rattle.capi.specs.Follows.{RingsOfBytes, FreshForms, TurnForms}
+use Rattle.capi.specs.Follows.{FreshForms, TurnForms}
 use Rattle.capi.proofs.Fits.{Fits, fits-none, fits-more, fits-both, fits-left, fits-right, fits-zeros}
 
 -- what is below 2^32 in a frame, and in a ring
@@ -95,7 +90,7 @@ module _ (d : Device) where
         (fits-right (ringWords (ringOf d 0) ++ ringWords (ringOf d 1) ++ ringWords (ringOf d 2)) all)
 
 -- a command leaves its frame, or the one of its arguments
-module _ (ring : List ℕ) (bytes : OfBytes ring) (cursor slot : ℕ) (window : List ℕ) (frame : Frame) (pack pipe : List ℕ) (limit : ℕ) (h : FrameFits frame) where
+module _ (ring : List ℕ) (bytes : OfBytes ring) (cursor : ℕ) (full : Bool) (window : List ℕ) (frame : Frame) (pack pipe : List ℕ) (limit : ℕ) (h : FrameFits frame) where
   abbrev c : Command
   c = commandAt ring cursor
 
@@ -106,10 +101,10 @@ module _ (ring : List ℕ) (bytes : OfBytes ring) (cursor slot : ℕ) (window : 
   abbrev Held : Left → Type 0
   Held l = FrameFits (l .performed .frame)
 
-  frame-after : Held (performedOf c slot ring window frame pack pipe limit)
+  frame-after : Held (performedOf c full ring window frame pack pipe limit)
   unfolding leaves afterDispatch
   frame-after =
-      performed-has c slot ring window frame pack pipe limit Held
+      performed-has c full ring window frame pack pipe limit Held
       (λ fine. work-has c ring window frame pack pipe limit Held (λ e. h) (λ e. h) (λ e. h) (λ e. h) (λ e. h) (λ e. h) (λ e. held-fits) h)
       (λ faulty. h)
 
@@ -145,26 +140,15 @@ module _ (d : Device) (q : ℕ) (c : Command) (p : Performed) (is : Formed d) (f
       (slots-row _ (emit-fits (emits c (p .outcome)) (withRing d q (ringAfter (ringOf d q) c (p .frame))) (c .rdst) (row-slots _ (slots-in d is))))
       (omega (arith, next-below q four))
 
-module _ (limit : ℕ) (d : Device) (call : Call) (is : Formed d) (bytes : RingsOfBytes call) where
-  picked-formed : (p : Picked) → verdictOn d call ≡ Sound → pickOf d (call .ring0) (call .ring1) (call .ring2) (call .ring3) ≡ p
-      → Formed (pickedOf limit d call p .turned .device)
-  unfolding pickedOf servedOf finished unchanged verdictOn ringAfter
-  picked-formed Nobody sound e = is
-  picked-formed (RingOf q) sound e =
-      let ring = bytesOfRing q (call .ring0) (call .ring1) (call .ring2) (call .ring3) in
-      let s = servable d (length (call .memory)) (call .ring0) (call .ring1) (call .ring2) (call .ring3) (length (call .pipe)) (call .pack) sound q e in
-      after-formed d q _ _ is (s .number)
-      (omega (arith, whole-inside ring (ringOf d q .cursor) (s .whole), s .short))
-      (frame-after ring (bytes q) _ _ _ _ _ _ _ (frame-in (ringOf d q) (rings-in d is q (s .number))))
-
-  judged-formed : (v : Verdict) → verdictOn d call ≡ v → Formed (judgedOf limit d call v .turned .device)
-  unfolding judgedOf unchanged
-  judged-formed Sound e = picked-formed _ e refl
-  judged-formed (Refused why) e = is
-
 pub turn-forms : TurnForms
-unfolding turnOf
-turn-forms d is limit call bytes = judged-formed limit d call is bytes (verdictOn d call) refl
+unfolding servedOf finished unchanged ringAfter
+turn-forms d is call bytes =
+    turn-cases d call (λ end. Formed (end .turned .device)) (λ why v. is) (λ sound p. is)
+    (λ q sound p.
+    let s = picked-servable d call q sound p in
+    after-formed d q _ _ is (s .number)
+    (omega (arith, whole-inside (ringIn call q) (ringOf d q .cursor) (s .whole), s .short))
+    (frame-after (ringIn call q) (bytes q) _ _ _ _ _ _ _ (frame-in (ringOf d q) (rings-in d is q (s .number)))))
 
 -- a window whose two numbers fit
 abbrev WindowFits : Window → Type 0

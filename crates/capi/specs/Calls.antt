@@ -6,13 +6,12 @@ use mathlib.Core.List.{List}
 use lib.Dec.{eqb}
 use lib.ListN.{length}
 use Rattle.words.specs.Choice.{either}
-use Rattle.kernel.specs.Run.{stepLimit}
 use Rattle.state.specs.declared.device.Device.{Device}
 use Rattle.device.specs.declared.fresh.Fresh.{Fresh}
 use Rattle.device.specs.declared.turn.Answer.{Answer}
 use Rattle.device.specs.Fresh.{freshOf}
 use Rattle.device.specs.Answer.{answerNumber, makingNumber}
-use Rattle.device.specs.Turn.{Call, After, turnOf}
+use Rattle.device.specs.Turn.{Call, TurnEnd, turnOf}
 use Rattle.capi.specs.Image.{encode, decode, windowAt}
 use Rattle.capi.specs.Report.{reportBytes}
 
@@ -64,7 +63,7 @@ unfoldable pub imageAfter : List ℕ → Device → Answer → List ℕ
 imageAfter image d answer = either (isServed answer) (encode d) image
 
 -- a turn's results, over the image that it started from
-unfoldable pub calledOf : List ℕ → After → Called
+unfoldable pub calledOf : List ℕ → TurnEnd → Called
 calledOf image a = record {
   image = imageAfter image (a .turned .device) (a .turned .answer);
   memory = a .memory;
@@ -83,6 +82,6 @@ unfoldable pub turnCall : List ℕ → List ℕ → Call → Called
 turnCall image report call =
     either (eqb (length image) 372)
     (either (eqb (length report) 24)
-    (calledOf image (turnOf stepLimit (decode image) call))
+    (calledOf image (turnOf (decode image) call))
     (untouched image report call 202))
     (untouched image report call 201)

@@ -3,18 +3,16 @@ use Prim.Native.Nat.{ℕ}
 use mathlib.Core.Path.{_≡_}
 use mathlib.Core.List.{List}
 use lib.ListN.{length}
-use Rattle.kernel.specs.Run.{stepLimit}
 use Rattle.state.specs.declared.device.Device.{Device}
-use Rattle.state.specs.Ready.{bytesOfRing}
 use Rattle.device.specs.Answer.{answerNumber}
-use Rattle.device.specs.Turn.{Call, After, turnOf}
+use Rattle.device.specs.Turn.{Call, TurnEnd, ringIn, turnOf}
 use Rattle.capi.specs.Image.{encode}
 use Rattle.capi.specs.Report.{reportBytes}
 use Rattle.capi.specs.Calls.{Called, freshFor, turnCall}
 use Rattle.capi.specs.Inverse.{OfBytes, Formed}
 
 -- the image of the device that a turn leaves, and what else it leaves and answers
-unfoldable pub followed : After → Called
+unfoldable pub followed : TurnEnd → Called
 followed a = record {
   image = encode (a .turned .device);
   memory = a .memory;
@@ -25,7 +23,7 @@ followed a = record {
 
 -- served or not, a call over the image of a device leaves the image of the device that its turn leaves
 abbrev pub FollowsFrom : Device → Type 0
-FollowsFrom d = (report : List ℕ) (call : Call) → length report ≡ 24 → turnCall (encode d) report call ≡ followed (turnOf stepLimit d call)
+FollowsFrom d = (report : List ℕ) (call : Call) → length report ≡ 24 → turnCall (encode d) report call ≡ followed (turnOf d call)
 
 -- of every formed device
 abbrev pub TurnFollows : Type 0
@@ -37,11 +35,11 @@ FreshForms = (windows : List ℕ) (memory : ℕ) → OfBytes windows → Formed 
 
 -- the rings that a call lends are of bytes
 abbrev pub RingsOfBytes : Call → Type 0
-RingsOfBytes call = (q : ℕ) → OfBytes (bytesOfRing q (call .ring0) (call .ring1) (call .ring2) (call .ring3))
+RingsOfBytes call = (q : ℕ) → OfBytes (ringIn call q)
 
 -- a turn from d over rings of bytes leaves a formed device
 abbrev pub FormsFrom : Device → Type 0
-FormsFrom d = (limit : ℕ) (call : Call) → RingsOfBytes call → Formed (turnOf limit d call .turned .device)
+FormsFrom d = (call : Call) → RingsOfBytes call → Formed (turnOf d call .turned .device)
 
 -- of every formed device; so a call follows its turn from call to call
 abbrev pub TurnForms : Type 0

@@ -16,23 +16,24 @@ use Rattle.device.specs.declared.turn.Answer.{Answer}
 use Rattle.device.specs.declared.turn.Answer.the-variants.{Refused, Idle, Served}
 use Rattle.state.specs.Device.{Shaped, freshDevice, ringOf}
 use Rattle.device.specs.Answer.{answerNumber, valuesOf}
-use Rattle.device.specs.Turn.{Call}
-use Rattle.device.specs.Left.{leftOf, sumOf, bytesLeft}
+use Rattle.device.specs.Turn.{Call, ringIn}
+use Rattle.device.specs.Untaken.{untakenOf, sumOf, untakenIn}
 use Rattle.device.proofs.Verdicts.{each-of-four}
-use Rattle.device.proofs.BytesLeft.{served-takes}
+use Rattle.device.proofs.Untaken.{served-takes}
 use Rattle.device.proofs.Shapes.{turn-shaped, fresh-shaped}
 use Rattle.demands.specs.Calls.{answerOf, leftBy, isRefused, heard, none, more}
-use Rattle.demands.specs.Bounded.{Lends, served, taken, leftIn, SaysIdle, here, later, TurnsBounded, IdleInTime, FreshIdleInTime}
+use Rattle.demands.specs.Bounded.{Lends, served, taken, SaysIdle, here, later, TurnsBounded, IdleInTime, FreshIdleInTime}
 use Rattle.device.proofs.Answers.{refusal-least}
 use Rattle.demands.proofs.Answers.{is-refused, refused-serves}
-use Rattle.demands.proofs.Turns.{was-served, picked-servable}
+use Rattle.device.proofs.Turns.{picked-servable}
+use Rattle.demands.proofs.Turns.{was-served}
 use Rattle.demands.proofs.Keeps.{keeps}
 use Rattle.demands.proofs.Sums.{sum-both}
 
--- the bytes left of a call's rings
-lent-left : (R : ℕ → List ℕ) (d : Device) (call : Call) → Lends R call → bytesLeft d call ≡ leftIn R d
-unfolding bytesLeft sumOf
-lent-left R d call lends = rw (lends 0 (lit< tt), lends 1 (lit< tt), lends 2 (lit< tt), lends 3 (lit< tt))
+-- the untaken bytes of a call's rings
+lent-untaken : (R : ℕ → List ℕ) (d : Device) (call : Call) → Lends R call → untakenIn (ringIn call) d ≡ untakenIn R d
+unfolding untakenIn sumOf
+lent-untaken R d call lends = rw (lends 0 (lit< tt), lends 1 (lit< tt), lends 2 (lit< tt), lends 3 (lit< tt))
 
 -- a served turn takes one command
 one-served : (report : Report) → report .ring < 4 → sumOf 4 (served (Served report)) ≡ 1
@@ -47,59 +48,59 @@ none-served why = rw (refused-serves why 0, refused-serves why 1, refused-serves
 
 -- and its bytes; a turn that serves none takes none, and it is refused or idle
 record Takes (R : ℕ → List ℕ) (d after : Device) (answer : Answer) : Type 0 where
-  bytes : 16 * sumOf 4 (served answer) + leftIn R after ≤ leftIn R d
+  bytes : 16 * sumOf 4 (served answer) + untakenIn R after ≤ untakenIn R d
   counts : (answer ≡ Idle) ⊎ (either (isRefused answer) 0 1 ≡ sumOf 4 (served answer))
 
-module _ (limit : ℕ) (d : Device) (call : Call) (R : ℕ → List ℕ) (shaped : Shaped d) where
-  turn-takes : (isRefused (answerOf limit d call) ≡ false → Lends R call) → Takes R d (leftBy limit d call) (answerOf limit d call)
+module _ (d : Device) (call : Call) (R : ℕ → List ℕ) (shaped : Shaped d) where
+  turn-takes : (isRefused (answerOf d call) ≡ false → Lends R call) → Takes R d (leftBy d call) (answerOf d call)
   unfolding sumOf served isRefused answerNumber either
-  turn-takes lends = go (answerOf limit d call) refl lends
+  turn-takes lends = go (answerOf d call) refl lends
     where
-      go : (answer : Answer) → answerOf limit d call ≡ answer → (isRefused answer ≡ false → Lends R call) → Takes R d (leftBy limit d call) answer
+      go : (answer : Answer) → answerOf d call ≡ answer → (isRefused answer ≡ false → Lends R call) → Takes R d (leftBy d call) answer
       go (Refused why) e lends =
-          let same = keeps limit d call .refused (rw e (refusal-least why)) .device in
+          let same = keeps d call .refused (rw e (refusal-least why)) .device in
           let none = none-served why in
-          record { bytes = omega (arith, ap (leftIn R) same, none); counts = inr (rw (is-refused why, none)) }
+          record { bytes = omega (arith, ap (untakenIn R) same, none); counts = inr (rw (is-refused why, none)) }
       go Idle e lends =
-          let same = keeps limit d call .idle (rw e) .device in
-          record { bytes = omega (arith, ap (leftIn R) same); counts = inl refl }
+          let same = keeps d call .idle (rw e) .device in
+          record { bytes = omega (arith, ap (untakenIn R) same); counts = inl refl }
       go (Served report) e lends =
-          let was = was-served limit d call report e in
+          let was = was-served d call report e in
           let one = one-served report (picked-servable d call (report .ring) (was .sound) (was .pick) .number) in
           let lent = lends refl in
           record {
-            bytes = omega (arith, one, served-takes limit d call shaped report e, lent-left R d call lent, lent-left R (leftBy limit d call) call lent);
+            bytes = omega (arith, one, served-takes d call shaped report e, lent-untaken R d call lent, lent-untaken R (leftBy d call) call lent);
             counts = inr (omega (arith, one));
           }
 
-none-taken : (limit : ℕ) (d : Device) → sumOf 4 (taken limit d []) ≡ 0
+none-taken : (d : Device) → sumOf 4 (taken d []) ≡ 0
 unfolding taken sumOf
-none-taken limit d = refl
+none-taken d = refl
 
 pub turns-bounded : TurnsBounded
 unfolding TurnsBounded taken
-turns-bounded d shaped limit R [] none = omega (arith, none-taken limit d)
-turns-bounded d shaped limit R (call ∷ calls) (more lends each) =
-    let now = turn-takes limit d call R shaped lends in
-    let further = turns-bounded (leftBy limit d call) (turn-shaped limit d call shaped) limit R calls each in
-    let both = sum-both (taken limit d (call ∷ calls)) (served (answerOf limit d call)) (taken limit (leftBy limit d call) calls) (λ q four. refl) in
+turns-bounded d shaped R [] none = omega (arith, none-taken d)
+turns-bounded d shaped R (call ∷ calls) (more lends each) =
+    let now = turn-takes d call R shaped lends in
+    let further = turns-bounded (leftBy d call) (turn-shaped d call shaped) R calls each in
+    let both = sum-both (taken d (call ∷ calls)) (served (answerOf d call)) (taken (leftBy d call) calls) (λ q four. refl) in
     omega (arith, now .bytes, further, both)
 
 pub idle-in-time : IdleInTime
 unfolding IdleInTime heard answerNumber
-idle-in-time d shaped limit R [] none enough = absurd (not-suc-le-zero enough)
-idle-in-time d shaped limit R (call ∷ calls) (more lends each) enough =
-    let now = turn-takes limit d call R shaped lends in
-    go (now .bytes) (now .counts) (idle-in-time (leftBy limit d call) (turn-shaped limit d call shaped) limit R calls each)
+idle-in-time d shaped R [] none enough = absurd (not-suc-le-zero enough)
+idle-in-time d shaped R (call ∷ calls) (more lends each) enough =
+    let now = turn-takes d call R shaped lends in
+    go (now .bytes) (now .counts) (idle-in-time (leftBy d call) (turn-shaped d call shaped) R calls each)
   where
-    go : 16 * sumOf 4 (served (answerOf limit d call)) + leftIn R (leftBy limit d call) ≤ leftIn R d
-        → (answerOf limit d call ≡ Idle) ⊎ (either (isRefused (answerOf limit d call)) 0 1 ≡ sumOf 4 (served (answerOf limit d call)))
-        → (leftIn R (leftBy limit d call) < 16 * heard limit (leftBy limit d call) calls → SaysIdle limit (leftBy limit d call) calls)
-        → SaysIdle limit d (call ∷ calls)
+    go : 16 * sumOf 4 (served (answerOf d call)) + untakenIn R (leftBy d call) ≤ untakenIn R d
+        → (answerOf d call ≡ Idle) ⊎ (either (isRefused (answerOf d call)) 0 1 ≡ sumOf 4 (served (answerOf d call)))
+        → (untakenIn R (leftBy d call) < 16 * heard (leftBy d call) calls → SaysIdle (leftBy d call) calls)
+        → SaysIdle d (call ∷ calls)
     go bytes (inl idle) further = here (ap answerNumber idle)
     go bytes (inr counted) further = later (further (omega (arith, bytes, counted, enough)))
 
 pub fresh-idle-in-time : FreshIdleInTime
-unfolding FreshIdleInTime IdleInTime freshDevice ringOf leftOf sumOf
-fresh-idle-in-time limit w0 w1 w2 w3 R calls each enough =
-    idle-in-time (freshDevice w0 w1 w2 w3) (fresh-shaped w0 w1 w2 w3) limit R calls each (omega (arith, enough))
+unfolding FreshIdleInTime IdleInTime freshDevice ringOf untakenOf untakenIn sumOf
+fresh-idle-in-time w0 w1 w2 w3 R calls each enough =
+    idle-in-time (freshDevice w0 w1 w2 w3) (fresh-shaped w0 w1 w2 w3) R calls each (omega (arith, enough))

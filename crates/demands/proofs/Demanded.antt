@@ -14,10 +14,10 @@ use Rattle.demands.proofs.Demands as demands
 pub demanded : (d : Device) → ByType d → Demanded d
 unfolding TurnKeeps TurnStaysSound TurnReports EachStep FourTurns FourTurnsByHead TurnsBounded IdleInTime
 demanded d typed = record {
-  keeps = λ limit call. demands.turn-keeps limit d call;
-  stays-sound = λ limit call. demands.turn-stays-sound limit d call;
+  keeps = λ call. demands.turn-keeps d call;
+  stays-sound = λ call. demands.turn-stays-sound d call;
   reports = demands.turn-reports d (typed .shaped) (typed .slots-fit);
-  steps = λ limit call. demands.each-step limit d call;
+  steps = λ call. demands.each-step d call;
   four-turns = demands.four-turns d (typed .slots-fit);
   four-turns-by-head = demands.four-turns-by-head d (typed .slots-fit);
   bounded = demands.turns-bounded d (typed .shaped);

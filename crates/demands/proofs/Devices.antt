@@ -1,6 +1,6 @@
 -- What a served command changes in the device.
 -- Assumes nothing.
-use mathlib.Core.Path.{_≡_, refl, ap}
+use mathlib.Core.Path.{_≡_, refl}
 use mathlib.Core.Bool.{Bool, true, false}
 use mathlib.Core.List.{List, [], _∷_}
 use Prim.Native.Nat.{ℕ, zero, suc, _^_, _≤_, _<_}
@@ -14,11 +14,12 @@ use Rattle.words.specs.Choice.{either}
 use Rattle.command.specs.Report.{emits}
 use Rattle.state.specs.declared.device.Ring.{Ring}
 use Rattle.state.specs.declared.device.Device.{Device}
-use Rattle.state.specs.Slots.{emitted, emittedIn}
+use borrow.Author.Tests.{eq-eqb}
+use Rattle.state.specs.Slots.{isFull, emitted, emittedIn}
 use Rattle.state.specs.Device.{SlotsFit, emptyWindow, freshRing, ringOf, slotOf, withRing, withSlots, withMarker}
 use Rattle.state.specs.Ready.{nextRing}
 use Rattle.device.specs.Turn.{emitTo, ringAfter, deviceAfter}
-use Rattle.device.proofs.BytesLeft.{rings-after}
+use Rattle.device.proofs.Untaken.{rings-after}
 use Rattle.device.proofs.Shapes.{put-each, emit-fits}
 
 -- a number put in one place of a list, no less than what it held, lowers no place
@@ -29,12 +30,13 @@ put-rises (x ∷ xs) zero v (suc m) h = le-refl _
 put-rises (x ∷ xs) (suc n) v zero h = le-refl _
 put-rises (x ∷ xs) (suc n) v (suc m) h = put-rises xs n v m h
 
-pub emit-rises : (b : Bool) (d : Device) (n : ℕ) → SlotsFit d → (b ≡ true → slotOf d n ≡ 4294967295 → ⊥) → (m : ℕ)
+pub emit-rises : (b : Bool) (d : Device) (n : ℕ) → SlotsFit d → (b ≡ true → isFull (slotOf d n) ≡ true → ⊥) → (m : ℕ)
     → slotOf d m ≤ slotOf (emitTo b d n) m
 unfolding emitTo either withSlots emittedIn slotOf SlotsFit
 emit-rises true d n fit room m =
     let below : getD (d .slots) n 0 < 2 ^ 32 = fit n in
-    let free : getD (d .slots) n 0 < 4294967295 = omega (arith, room refl) in
+    let not-full : getD (d .slots) n 0 ≡ 4294967295 → ⊥ = λ is. room refl (eq-eqb _ _ is) in
+    let free : getD (d .slots) n 0 < 4294967295 = omega (arith, not-full) in
     put-rises (d .slots) n (emitted (getD (d .slots) n 0)) m (omega arith)
 emit-rises false d n fit room m = le-refl _
 
@@ -45,7 +47,7 @@ module _ (d : Device) (q : ℕ) (c : Command) (p : Performed) where
   after-marker = refl
 
   -- no slot is lowered
-  pub after-rises : SlotsFit d → (emits c (p .outcome) ≡ true → slotOf d (c .rdst) ≡ 4294967295 → ⊥) → (m : ℕ)
+  pub after-rises : SlotsFit d → (emits c (p .outcome) ≡ true → isFull (slotOf d (c .rdst)) ≡ true → ⊥) → (m : ℕ)
       → slotOf d m ≤ slotOf (deviceAfter d q c p) m
   unfolding deviceAfter withMarker withRing slotOf SlotsFit
   after-rises fit room m = emit-rises (emits c (p .outcome)) (withRing d q (ringAfter (ringOf d q) c (p .frame))) (c .rdst) fit room m

@@ -30,31 +30,32 @@ use Rattle.work.specs.Work.{leaves, ranOutcome, dispatchedBy, afterDispatch}
 use Rattle.work.proofs.Works.{work-dispatch}
 use Rattle.work.proofs.Performs.{performed-work}
 use Rattle.state.specs.declared.device.Device.{Device}
-use Rattle.state.specs.Device.{ringOf, slotOf}
+use Rattle.state.specs.Device.{ringOf, slotOf, limitOf}
 use Rattle.device.specs.Answer.{valuesOf}
-use Rattle.device.specs.Turn.{Call, servedOf}
-use Rattle.demands.specs.Calls.{ringIn, headIn, numberIn, valuesIn, ringServed}
+use Rattle.device.specs.Turn.{Call, servedOf, ringIn, reportOf}
+use Rattle.demands.specs.Calls.{headIn, numberIn, valuesIn, ringServed}
 use Rattle.demands.specs.EachStep.{windowIn, Dispatches, threadsIn, kernelIn, Leaves, ThreadsInOrder, StepsInOrder, StepByRule, LimitTied, OutOfStepsIn, EachStep}
 use Rattle.demands.proofs.Turns.{workIn, served-as}
 use Rattle.demands.proofs.OutOfSteps.{first-out-of-steps}
+use Rattle.state.specs.Slots.{isFull}
 
 -- the work of a DISPATCH_1D with no fault is what its threads leave
-dispatch-work : (limit : ℕ) (d : Device) (call : Call) (q : ℕ) → Dispatches d call q
-    → workIn limit d call q ≡ afterDispatch (ringOf d q .frame) (call .pipe) (threadsIn limit d call q)
+dispatch-work : (d : Device) (call : Call) (q : ℕ) → Dispatches d call q
+    → workIn d call q ≡ afterDispatch (ringOf d q .frame) (call .pipe) (threadsIn d call q)
 unfolding dispatchedBy dispatchOf
-dispatch-work limit d call q is =
+dispatch-work d call q is =
     let c = headIn d call q in
-    performed-work c (slotOf d (c .rdst)) (ringIn call q) (windowIn d call q) (ringOf d q .frame) (call .pack) (call .pipe) limit (is .no-fault)
-    ∙ work-dispatch c (ringIn call q) (windowIn d call q) (ringOf d q .frame) (call .pack) (call .pipe) limit (is .opcode)
+    performed-work c (isFull (slotOf d (c .rdst))) (ringIn call q) (windowIn d call q) (ringOf d q .frame) (call .pack) (call .pipe) (limitOf d) (is .no-fault)
+    ∙ work-dispatch c (ringIn call q) (windowIn d call q) (ringOf d q .frame) (call .pack) (call .pipe) (limitOf d) (is .opcode)
 
-dispatch-served : (limit : ℕ) (d : Device) (call : Call) → numberIn limit d call ≡ 0 → Dispatches d call (ringServed limit d call)
-    → Leaves limit d call (threadsIn limit d call (ringServed limit d call))
-unfolding servedOf afterDispatch leaves valuesOf
-dispatch-served limit d call number is =
-    let s = served-as limit d call number in
-    let ring : ringServed limit d call ≡ s .report .ring = ap (λ v. v .ring) (s .values) in
+dispatch-served : (d : Device) (call : Call) → numberIn d call ≡ 0 → Dispatches d call (ringServed d call)
+    → Leaves d call (threadsIn d call (ringServed d call))
+unfolding servedOf afterDispatch leaves valuesOf reportOf
+dispatch-served d call number is =
+    let s = served-as d call number in
+    let ring : ringServed d call ≡ s .report .ring = ap (λ v. v .ring) (s .values) in
     let told = ap (λ v. v .outcome) (s .values) ∙ sym (ap (λ r. outcomeNumber (r .outcome)) (s .was .told)) in
-    let work = dispatch-work limit d call (s .report .ring) (rw ring at is) in
+    let work = dispatch-work d call (s .report .ring) (rw ring at is) in
     record {
       memory = rw (ring, s .was .after, work);
       pipe = rw (s .was .after, work);
@@ -118,24 +119,24 @@ fourteen-is r = (there r, λ e. rw e)
     there (StoppedFor OutsideTheWindow) e = absurd (omega arith)
     there (StoppedFor OutOfSteps) e = refl
 
-dispatch-fourteen : (limit : ℕ) (d : Device) (call : Call) → numberIn limit d call ≡ 0 → Dispatches d call (ringServed limit d call)
-    → (valuesIn limit d call .outcome ≡ 14) ↔ OutOfStepsIn limit d call (ringServed limit d call)
-dispatch-fourteen limit d call served is =
-    let q = ringServed limit d call in
+dispatch-fourteen : (d : Device) (call : Call) → numberIn d call ≡ 0 → Dispatches d call (ringServed d call)
+    → (valuesIn d call .outcome ≡ 14) ↔ OutOfStepsIn d call (ringServed d call)
+dispatch-fourteen d call served is =
+    let q = ringServed d call in
     let c = headIn d call q in
-    let number = fourteen-is (threadsIn limit d call q .ran) in
-    let first = first-out-of-steps limit (call .pack) (kernelIn d call q) (c .arg0) (c .arg1) (windowIn d call q) in
-    let same = dispatch-served limit d call served is .outcome in
+    let number = fourteen-is (threadsIn d call q .ran) in
+    let first = first-out-of-steps (limitOf d) (call .pack) (kernelIn d call q) (c .arg0) (c .arg1) (windowIn d call q) in
+    let same = dispatch-served d call served is .outcome in
     (λ n. first .0 (number .0 (sym same ∙ n)), λ f. same ∙ number .1 (first .1 f))
 
 pub each-step : EachStep
 unfolding EachStep outcomeNumber ranOutcome
-each-step limit d call = record {
-  served = dispatch-served limit d call;
-  threads = threads-in-order limit (call .pack);
-  steps = steps-in-order limit (call .pack);
-  step = step-by-rule limit (call .pack);
-  limits = λ served is g j g-is j-is. limit-tied limit (call .pack) _ g j _ _;
-  fourteen = dispatch-fourteen limit d call;
+each-step d call = record {
+  served = dispatch-served d call;
+  threads = threads-in-order (limitOf d) (call .pack);
+  steps = steps-in-order (limitOf d) (call .pack);
+  step = step-by-rule (limitOf d) (call .pack);
+  limits = λ served is g j g-is j-is. limit-tied (limitOf d) (call .pack) _ g j _ _;
+  fourteen = dispatch-fourteen d call;
   numbers = (refl, refl, refl, refl);
 }

@@ -16,7 +16,7 @@ use Rattle.command.specs.Flags.{emitBit, waitBit, reservedBit}
 use Rattle.command.specs.Outcome.{outcomeNumber, isDone}
 use Rattle.work.specs.Perform.{performedOf}
 use Rattle.command.specs.Report.{emits}
-use Rattle.words.proofs.Choices.{both-left, both-right}
+use Rattle.words.proofs.Choices.{both-left, both-right, not-held}
 use Rattle.demands.specs.Idle.{isEmitting}
 use Rattle.demands.proofs.Works.{full-slot-stays, emits-when-sound}
 
@@ -43,8 +43,8 @@ emitting-slot c e =
     (both-right (emitBit (c .flags)) (isDone (headerFault c)) e))
 
 -- so does a command that has added to its slot
-pub emits-in-range : (c : Command) (slot : ℕ) (ring window : List ℕ) (frame : Frame) (pack pipe : List ℕ) (limit : ℕ)
-    → emits c (performedOf c slot ring window frame pack pipe limit .performed .outcome) ≡ true → c .rdst < 64
-emits-in-range c slot ring window frame pack pipe limit e =
-    let free = full-slot-stays c slot ring window frame pack pipe limit e in
-    emitting-slot c (sym (emits-when-sound c slot ring window frame pack pipe limit free) ∙ e)
+pub emits-in-range : (c : Command) (full : Bool) (ring window : List ℕ) (frame : Frame) (pack pipe : List ℕ) (limit : ℕ)
+    → emits c (performedOf c full ring window frame pack pipe limit .performed .outcome) ≡ true → c .rdst < 64
+emits-in-range c full ring window frame pack pipe limit e =
+    let free = not-held full (full-slot-stays c full ring window frame pack pipe limit e) in
+    emitting-slot c (sym (emits-when-sound c full ring window frame pack pipe limit free) ∙ e)

@@ -10,7 +10,7 @@ use native.Mathlib.Omega.{arith}
 use lib.Dec.{eqb, lit<}
 use lib.ListN.{length, getD, replicate}
 use lib.Seq.{getD-set-same}
-use borrow.Author.Tests.{eqb-true, eqb-false, eq-eqb}
+use borrow.Author.Tests.{eqb-true, eqb-false, eq-eqb, ne-eqb}
 use Rattle.command.specs.declared.header.Command.{Command}
 use Rattle.work.specs.declared.work.Performed.{Performed}
 use Rattle.words.specs.Choice.{either}
@@ -24,16 +24,17 @@ use Rattle.state.specs.Device.{Shaped, freshDevice, ringOf, slotOf}
 use Rattle.state.specs.Ready.{readyWhere, readyAt, pickOf}
 use Rattle.state.specs.Slots.{emitted}
 use Rattle.device.specs.Answer.{answerNumber}
-use Rattle.device.specs.Turn.{Call, unchanged, deviceAfter, finished, reportOf, servedOf, verdictOn}
-use Rattle.device.specs.Left.{sumOf}
+use Rattle.device.specs.Turn.{Call, unchanged, deviceAfter, finished, reportOf, servedOf, verdictOn, ringIn, pickIn}
+use Rattle.device.specs.Untaken.{sumOf}
 use Rattle.device.proofs.Verdicts.{each-of-four, steady}
 use Rattle.device.proofs.Shapes.{after-shaped, fresh-shaped}
-use Rattle.demands.specs.Calls.{ringIn, headIn, answerOf, leftBy, isRefused, EachHeard, none, more}
+use Rattle.demands.specs.Calls.{headIn, answerOf, leftBy, isRefused, EachHeard, none, more}
 use Rattle.demands.specs.Bounded.{Lends, served, taken}
 use Rattle.demands.specs.Idle.{placeOf, nth, isEmitting, emitsIn, countOf, oneMore, Order, nothing, start, lastOf, IdleIsDone}
 use Rattle.device.proofs.Answers.{idle-answer}
 use Rattle.demands.proofs.Answers.{refused-serves}
-use Rattle.demands.proofs.Turns.{pickIn, servedIn, workIn, turn-cases, marker-below, served-heard, picked-servable}
+use Rattle.device.proofs.Turns.{servedIn, turn-cases, marker-below, picked-servable}
+use Rattle.demands.proofs.Turns.{workIn, served-heard}
 use Rattle.demands.proofs.Works.{emits-when-sound}
 use Rattle.demands.proofs.Devices.{after-emit, after-no-emit, after-other-slot}
 use Rattle.demands.proofs.Walks.{seek-reaches, distance}
@@ -76,12 +77,12 @@ module _ (d : Device) (q : ℕ) (c : Command) (p : Performed) (shaped : Shaped d
           let misses : hit c s ≡ 0 = rw e in
           omega (arith, misses, stays e)
 
-module _ (limit : ℕ) (R : ℕ → List ℕ) where
+module _ (R : ℕ → List ℕ) where
   -- an idle answer: no ring is ready
-  idle-unready : (d : Device) (call : Call) → answerOf limit d call ≡ Idle → (q : ℕ) → q < 4 → readyAt d q (ringIn call q) ≡ true → ⊥
+  idle-unready : (d : Device) (call : Call) → answerOf d call ≡ Idle → (q : ℕ) → q < 4 → readyAt d q (ringIn call q) ≡ true → ⊥
   unfolding unchanged servedOf finished reportOf pickOf
   idle-unready d call e q four ready =
-      turn-cases limit d call (λ a. a .turned .answer ≡ Idle → ⊥)
+      turn-cases d call (λ a. a .turned .answer ≡ Idle → ⊥)
       (λ why v a. let z : _≡_ {A = ℕ} 0 1 = cc in omega arith)
       (λ sound p a.
       let away = distance (d .marker) q (marker-below d call sound) four in
@@ -118,7 +119,7 @@ few R d t took call sound s =
     let each : (q : ℕ) → q < 4 → t q ≤ 4096 = λ q four. omega (arith, place-least (R q) (t q), took .cursors q four, calm .cursors q four) in
     omega (arith, took .slots s, count-most R t s, each 0 (lit< tt), each 1 (lit< tt), each 2 (lit< tt), each 3 (lit< tt))
 
-module _ (limit : ℕ) (R : ℕ → List ℕ) where
+module _ (R : ℕ → List ℕ) where
   -- a served ring has one more command taken
   module _ (d : Device) (t : ℕ → ℕ) (took : Took R d t) (call : Call) (lends : Lends R call) (r : ℕ)
       (sound : verdictOn d call ≡ Sound) (pick : pickIn d call ≡ RingOf r) where
@@ -128,62 +129,63 @@ module _ (limit : ℕ) (R : ℕ → List ℕ) where
     head : headIn d call r ≡ nth (R r) (t r)
     head = rw (lends r ring-below, took .cursors r ring-below)
 
-    next-cursor : (q : ℕ) → q < 4 → ringOf (servedIn limit d call r .turned .device) q .cursor ≡ placeOf (R q) (oneMore t r q)
+    next-cursor : (q : ℕ) → q < 4 → ringOf (servedIn d call r .turned .device) q .cursor ≡ placeOf (R q) (oneMore t r q)
     unfolding placeOf
     next-cursor q four = go (eqb q r) refl
       where
-        go : (b : Bool) → eqb q r ≡ b → ringOf (servedIn limit d call r .turned .device) q .cursor ≡ placeOf (R q) (oneMore t r q)
+        go : (b : Bool) → eqb q r ≡ b → ringOf (servedIn d call r .turned .device) q .cursor ≡ placeOf (R q) (oneMore t r q)
         go true e =
             rw (eqb-true q r e, more-here t r)
-            (served-cursor limit d call r (took .shaped) sound pick ∙ rw (head, took .cursors r ring-below))
+            (served-cursor d call r (took .shaped) sound pick ∙ rw (head, took .cursors r ring-below))
         go false e =
             let other = eqb-false q r e in
-            rw (more-other t r q other) (served-others limit d call r q other ∙ took .cursors q four)
+            rw (more-other t r q other) (served-others d call r q other ∙ took .cursors q four)
 
-    next-slot : (s : ℕ) → slotOf (servedIn limit d call r .turned .device) s ≡ countOf R (oneMore t r) s
+    next-slot : (s : ℕ) → slotOf (servedIn d call r .turned .device) s ≡ countOf R (oneMore t r) s
     unfolding servedOf finished
     next-slot s =
         let c = headIn d call r in
         let free = few R d t took call sound (c .rdst) in
-        let hits = slot-hit d r c (workIn limit d call r .performed) (took .shaped) free (emits-when-sound _ _ _ _ _ _ _ _ (λ full. omega (arith, free, full))) s in
+        let not-full = ne-eqb (slotOf d (c .rdst)) 4294967295 (λ is. omega (arith, free, is)) in
+        let hits = slot-hit d r c (workIn d call r .performed) (took .shaped) free (emits-when-sound _ _ _ _ _ _ _ _ not-full) s in
         let same : hit c s ≡ hit (nth (R r) (t r)) s = ap (λ k. hit k s) head in
         omega (arith, hits, same, took .slots s, count-more R t r s ring-below)
 
-    next-shaped : Shaped (servedIn limit d call r .turned .device)
+    next-shaped : Shaped (servedIn d call r .turned .device)
     unfolding servedOf finished
-    next-shaped = after-shaped d r (headIn d call r) (workIn limit d call r .performed) (took .shaped)
+    next-shaped = after-shaped d r (headIn d call r) (workIn d call r .performed) (took .shaped)
 
-    next-took : Took R (servedIn limit d call r .turned .device) (oneMore t r)
+    next-took : Took R (servedIn d call r .turned .device) (oneMore t r)
     next-took = record { shaped = next-shaped; cursors = next-cursor; slots = next-slot }
 
-    next-count : (q : ℕ) → oneMore t r q ≡ t q + served (servedIn limit d call r .turned .answer) q
+    next-count : (q : ℕ) → oneMore t r q ≡ t q + served (servedIn d call r .turned .answer) q
     unfolding either
-    next-count q = rw (served-is limit d call r q) (go (eqb q r) refl)
+    next-count q = rw (served-is d call r q) (go (eqb q r) refl)
       where
         go : (b : Bool) → eqb q r ≡ b → oneMore t r q ≡ t q + either (eqb q r) 1 0
         go true e = let here = eqb-true q r e in rw (here, more-here t r, eq-eqb r r refl) (omega arith)
         go false e = rw (more-other t r q (eqb-false q r e), e) (omega arith)
 
-  turn-took : (d : Device) (t : ℕ → ℕ) → Took R d t → (call : Call) → (isRefused (answerOf limit d call) ≡ false → Lends R call)
-      → (u : ℕ → ℕ) × Took R (leftBy limit d call) u × ((q : ℕ) → u q ≡ t q + served (answerOf limit d call) q)
+  turn-took : (d : Device) (t : ℕ → ℕ) → Took R d t → (call : Call) → (isRefused (answerOf d call) ≡ false → Lends R call)
+      → (u : ℕ → ℕ) × Took R (leftBy d call) u × ((q : ℕ) → u q ≡ t q + served (answerOf d call) q)
   unfolding unchanged served answerNumber either
   turn-took d t took call =
-      turn-cases limit d call
+      turn-cases d call
       (λ a. (isRefused (a .turned .answer) ≡ false → Lends R call)
       → (u : ℕ → ℕ) × Took R (a .turned .device) u × ((q : ℕ) → u q ≡ t q + served (a .turned .answer) q))
       (λ why v lends. (t, took, λ q. omega (arith, refused-serves why q)))
       (λ v p lends. (t, took, λ q. omega arith))
       (λ r v p lends.
-      let lent = lends (served-heard limit d call r) in
+      let lent = lends (served-heard d call r) in
       (oneMore t r, next-took d t took call lent r v p, next-count d t took call lent r v p))
 
-  run-took : (calls : List Call) (d : Device) (t : ℕ → ℕ) → Took R d t → EachHeard (Lends R) limit d calls
-      → (u : ℕ → ℕ) × Took R (lastOf limit d calls) u × ((q : ℕ) → u q ≡ t q + taken limit d calls q)
+  run-took : (calls : List Call) (d : Device) (t : ℕ → ℕ) → Took R d t → EachHeard (Lends R) d calls
+      → (u : ℕ → ℕ) × Took R (lastOf d calls) u × ((q : ℕ) → u q ≡ t q + taken d calls q)
   unfolding lastOf taken
   run-took [] d t took none = (t, took, λ q. omega arith)
   run-took (call ∷ calls) d t took (more lends each) =
       let first = turn-took d t took call lends in
-      let rest = run-took calls (leftBy limit d call) (first .0) (first .1) each in
+      let rest = run-took calls (leftBy d call) (first .0) (first .1) each in
       (rest .0, rest .1, λ q. omega (arith, first .2 q, rest .2 q))
 
 zeros : (k n : ℕ) → _≡_ {A = ℕ} (getD (replicate k 0) n 0) 0
@@ -202,8 +204,8 @@ fresh-took R w0 w1 w2 w3 = record {
 
 pub idle-is-done : IdleIsDone
 unfolding IdleIsDone
-idle-is-done limit w0 w1 w2 w3 R calls last each lends idle n order q =
-    let ran = run-took limit R calls (freshDevice w0 w1 w2 w3) (λ q. 0) (fresh-took R w0 w1 w2 w3) each in
-    let unready = idle-unready limit R (lastOf limit (freshDevice w0 w1 w2 w3) calls) last (idle-answer _ idle) in
-    let le = behind limit R _ (ran .0) (ran .1) (λ p four ready. unready p four (rw (lends p four) ready)) order q in
+idle-is-done w0 w1 w2 w3 R calls last each lends idle n order q =
+    let ran = run-took R calls (freshDevice w0 w1 w2 w3) (λ q. 0) (fresh-took R w0 w1 w2 w3) each in
+    let unready = idle-unready R (lastOf (freshDevice w0 w1 w2 w3) calls) last (idle-answer _ idle) in
+    let le = behind R _ (ran .0) (ran .1) (λ p four ready. unready p four (rw (lends p four) ready)) order q in
     omega (arith, le, ran .2 q)

@@ -12,7 +12,7 @@ use borrow.Author.Tests.{eq-eqb, ne-eqb}
 use Rattle.command.specs.declared.header.Command.{Command}
 use Rattle.words.specs.Choice.{either}
 use Rattle.command.proofs.Sizes.{size-least}
-use Rattle.device.specs.Left.{sumOf}
+use Rattle.device.specs.Untaken.{sumOf}
 use Rattle.demands.specs.Idle.{placeOf, nth, isEmitting, emitsIn, countOf, oneMore}
 use Rattle.demands.proofs.Sums.{sum-grows, sum-most}
 

@@ -17,23 +17,25 @@ use Rattle.command.specs.Opcode.{readMem}
 use Rattle.command.specs.Outcome.{outcomeNumber, isDone}
 use Rattle.command.specs.Report.{emits, interrupts, wordsRead}
 use Rattle.work.specs.Work.{heldBy}
-use Rattle.words.proofs.Choices.{both-left, both-right}
+use Rattle.words.proofs.Choices.{both-left, both-right, not-held}
 use Rattle.state.specs.declared.device.Device.{Device}
 use Rattle.device.specs.declared.turn.Report.{Report}
 use Rattle.device.specs.declared.turn.Answer.the-variants.{Served}
 use Rattle.state.specs.Device.{Shaped, SlotsFit, ringOf, slotOf}
 use Rattle.device.specs.Answer.{Values, valuesOf}
 use Rattle.state.specs.Ready.{readyAt, pickOf}
-use Rattle.device.specs.Turn.{Call, fenceOf, ringAfter, deviceAfter, finished, servedOf}
+use Rattle.device.specs.Turn.{Call, fenceOf, ringAfter, deviceAfter, finished, servedOf, ringIn, reportOf}
 use Rattle.device.proofs.Verdicts.{found}
-use Rattle.device.proofs.BytesLeft.{served-ring, other-ring}
+use Rattle.device.proofs.Untaken.{served-ring, other-ring}
 use Rattle.device.proofs.Shapes.{after-shaped}
-use Rattle.demands.specs.Calls.{ringIn, headIn, leftBy}
+use Rattle.demands.specs.Calls.{headIn, leftBy}
 use Rattle.demands.specs.Reports.{Signals, Interrupts, Reads, SetsFrame, Reported, Serving, TurnReports}
-use Rattle.demands.proofs.Turns.{workIn, WasServed, served-as, marker-below}
+use Rattle.device.proofs.Turns.{marker-below}
+use Rattle.demands.proofs.Turns.{workIn, WasServed, served-as}
 use Rattle.demands.proofs.Works.{full-slot-stays, frame-set, frame-kept}
 use Rattle.demands.proofs.Devices.{after-marker, after-fits, after-emit, after-no-emit, after-other-slot}
 use Rattle.demands.proofs.Emitting.{emits-in-range}
+use Rattle.state.specs.Slots.{isFull}
 
 both : (a b : Bool) → a ≡ true → b ≡ true → (a && b) ≡ true
 both a b p q = rw (p, q)
@@ -45,10 +47,6 @@ one-of false b s = ⊎-elim (λ e. cc) (λ e. e) s
 which : (a b : Bool) → (a || b) ≡ true → (a ≡ true) ⊎ (b ≡ true)
 which true b e = inl refl
 which false b e = inr e
-
-not-held : (b : Bool) → (b ≡ true → ⊥) → b ≡ false
-not-held true f = absurd (f refl)
-not-held false f = refl
 
 module _ (c : Command) (o : Outcome) where
   pub signals : (emits c o ≡ true) ↔ Signals c (outcomeNumber o)
@@ -76,22 +74,17 @@ module _ (c : Command) (o : Outcome) where
       rw (not-held (is && isDone o) (λ e. not (eqb-true _ _ (both-left is (isDone o) e), eqb-true _ _ (both-right is (isDone o) e))))
 
 module _ (d : Device) (q : ℕ) (c : Command) (p : Performed) (shaped : Shaped d) (fit : SlotsFit d) (four : q < 4)
-    (full : emits c (p .outcome) ≡ true → slotOf d (c .rdst) ≡ 4294967295 → ⊥) (range : emits c (p .outcome) ≡ true → c .rdst < 64)
+    (full : emits c (p .outcome) ≡ true → isFull (slotOf d (c .rdst)) ≡ true → ⊥) (range : emits c (p .outcome) ≡ true → c .rdst < 64)
     (sets : SetsFrame c (outcomeNumber (p .outcome)) → p .frame ≡ heldBy c) (kept : (SetsFrame c (outcomeNumber (p .outcome)) → ⊥) → p .frame ≡ ringOf d q .frame) where
   abbrev told : Values
-  told = record {
-    ring = q;
-    outcome = outcomeNumber (p .outcome);
-    fence = fenceOf (emits c (p .outcome)) (slotOf d (c .rdst));
-    words = wordsRead c (p .outcome);
-    irq = interrupts c (p .outcome);
-  }
+  told = valuesOf (Served (reportOf d q c p))
 
   one-more : emits c (p .outcome) ≡ true → fenceOf (emits c (p .outcome)) (slotOf d (c .rdst)) ≡ slotOf d (c .rdst) + 1
   unfolding fenceOf either SlotsFit
   one-more e =
       let below : slotOf d (c .rdst) < 2 ^ 32 = fit (c .rdst) in
-      rw e (omega (arith, full e))
+      let not-full : slotOf d (c .rdst) ≡ 4294967295 → ⊥ = λ is. full e (eq-eqb _ _ is) in
+      rw e (omega (arith, not-full))
 
   holds : emits c (p .outcome) ≡ true → slotOf (deviceAfter d q c p) (c .rdst) ≡ fenceOf (emits c (p .outcome)) (slotOf d (c .rdst))
   unfolding fenceOf either slotOf
@@ -112,7 +105,7 @@ module _ (d : Device) (q : ℕ) (c : Command) (p : Performed) (shaped : Shaped d
   moved = served-ring d q c p (omega (arith, shaped .rings))
 
   reported : Reported d q c told (deviceAfter d q c p)
-  unfolding ringAfter
+  unfolding ringAfter valuesOf reportOf
   reported = record {
     fence = λ s. one-more (signals c (p .outcome) .1 s);
     signalled = λ s. holds (signals c (p .outcome) .1 s);
@@ -131,13 +124,13 @@ module _ (d : Device) (q : ℕ) (c : Command) (p : Performed) (shaped : Shaped d
   }
 
 -- the values of a served turn's report
-reports : (limit : ℕ) (d : Device) (call : Call) (report : Report) → Shaped d → SlotsFit d → WasServed limit d call report
-    → Serving limit d call (valuesOf (Served report))
+reports : (d : Device) (call : Call) (report : Report) → Shaped d → SlotsFit d → WasServed d call report
+    → Serving d call (valuesOf (Served report))
 unfolding servedOf finished pickOf valuesOf
-reports limit d call report shaped fit was =
+reports d call report shaped fit was =
     let q = report .ring in
     let c = headIn d call q in
-    let p = workIn limit d call q .performed in
+    let p = workIn d call q .performed in
     let picked = found (λ r. readyAt d r (ringIn call r)) 4 (d .marker) q (marker-below d call (was .sound)) (was .pick) in
     record {
       ring = picked .0;
@@ -153,6 +146,6 @@ reports limit d call report shaped fit was =
 
 pub turn-reports : TurnReports
 unfolding TurnReports
-turn-reports d shaped fit limit call number =
-    let s = served-as limit d call number in
-    rw (s .values) (reports limit d call (s .report) shaped fit (s .was))
+turn-reports d shaped fit call number =
+    let s = served-as d call number in
+    rw (s .values) (reports d call (s .report) shaped fit (s .was))

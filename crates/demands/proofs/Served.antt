@@ -10,25 +10,26 @@ use Rattle.state.specs.declared.refusal.Verdict.the-variants.{Sound}
 use Rattle.state.specs.declared.ready.Picked.the-variants.{Ring as RingOf}
 use Rattle.state.specs.Device.{Shaped, ringOf}
 use Rattle.device.specs.Answer.{answerNumber, valuesOf}
-use Rattle.device.specs.Turn.{Call, ringAfter, finished, reportOf, servedOf, verdictOn}
-use Rattle.device.proofs.BytesLeft.{served-ring, other-ring}
+use Rattle.device.specs.Turn.{Call, ringAfter, finished, reportOf, servedOf, verdictOn, pickIn}
+use Rattle.device.proofs.Untaken.{served-ring, other-ring}
 use Rattle.demands.specs.Calls.{headIn}
 use Rattle.demands.specs.Bounded.{served}
-use Rattle.demands.proofs.Turns.{pickIn, servedIn, workIn, picked-servable}
+use Rattle.device.proofs.Turns.{servedIn, picked-servable}
+use Rattle.demands.proofs.Turns.{workIn}
 
-module _ (limit : ℕ) (d : Device) (call : Call) (r : ℕ) where
+module _ (d : Device) (call : Call) (r : ℕ) where
   -- the cursor of a served ring moves past its command
   pub served-cursor : Shaped d → verdictOn d call ≡ Sound → pickIn d call ≡ RingOf r
-      → ringOf (servedIn limit d call r .turned .device) r .cursor ≡ ringOf d r .cursor + headIn d call r .size
+      → ringOf (servedIn d call r .turned .device) r .cursor ≡ ringOf d r .cursor + headIn d call r .size
   unfolding servedOf finished ringAfter
   served-cursor shaped sound pick =
-      ap (λ x. x .cursor) (served-ring d r (headIn d call r) (workIn limit d call r .performed) (omega (arith, picked-servable d call r sound pick .number, shaped .rings)))
+      ap (λ x. x .cursor) (served-ring d r (headIn d call r) (workIn d call r .performed) (omega (arith, picked-servable d call r sound pick .number, shaped .rings)))
 
-  pub served-others : (n : ℕ) → (n ≡ r → ⊥) → ringOf (servedIn limit d call r .turned .device) n .cursor ≡ ringOf d n .cursor
+  pub served-others : (n : ℕ) → (n ≡ r → ⊥) → ringOf (servedIn d call r .turned .device) n .cursor ≡ ringOf d n .cursor
   unfolding servedOf finished
-  served-others n other = ap (λ x. x .cursor) (other-ring d r (headIn d call r) (workIn limit d call r .performed) n other)
+  served-others n other = ap (λ x. x .cursor) (other-ring d r (headIn d call r) (workIn d call r .performed) n other)
 
   -- one command is taken
-  pub served-is : (n : ℕ) → served (servedIn limit d call r .turned .answer) n ≡ either (eqb n r) 1 0
+  pub served-is : (n : ℕ) → served (servedIn d call r .turned .answer) n ≡ either (eqb n r) 1 0
   unfolding servedOf finished reportOf served answerNumber valuesOf
   served-is n = refl

@@ -21,19 +21,21 @@ use Rattle.state.specs.declared.refusal.Verdict.{Verdict}
 use Rattle.state.specs.declared.refusal.Verdict.the-variants.{Sound, Refused}
 use Rattle.state.specs.declared.ready.Picked.the-variants.{Ring as RingOf}
 use Rattle.device.specs.declared.fresh.Fresh.{Fresh}
-use Rattle.state.specs.Device.{emptyWindow, freshDevice, ringOf, slotOf}
+use Rattle.state.specs.Device.{emptyWindow, freshDevice, ringOf, slotOf, limitOf}
 use Rattle.device.specs.Answer.{answerNumber, makingNumber}
 use Rattle.state.specs.Refusal.{refusalNumber, windowFits, memoryFits, windowsFit, ringSound, stateSound, verdictOf}
 use Rattle.device.specs.Fresh.{freshOf}
-use Rattle.device.specs.Turn.{Call, unchanged, ringAfter, reportOf, finished, servedOf, judgedOf, verdictOn, turnOf}
+use Rattle.device.specs.Turn.{Call, unchanged, ringAfter, reportOf, finished, servedOf, judgedOf, verdictOn, turnOf, ringIn, pickIn}
 use Rattle.state.proofs.Seeks.{next-below}
 use Rattle.device.proofs.Verdicts.{all-four}
 use Rattle.device.proofs.Wholes.{whole-inside}
-use Rattle.demands.specs.Calls.{ringIn, headIn, answerOf, leftBy, none, more}
+use Rattle.demands.specs.Calls.{headIn, answerOf, leftBy, none, more}
 use Rattle.demands.specs.EachStep.{windowIn}
 use Rattle.demands.specs.Sound.{StaysSound, TurnStaysSound, RefusedForLent, SoundRefusals, FreshMakesSound, CallsStaySound, FreshStaysSound}
-use Rattle.demands.proofs.Turns.{pickIn, servedIn, workIn, turn-cases, picked-servable}
+use Rattle.device.proofs.Turns.{servedIn, turn-cases, picked-servable}
+use Rattle.demands.proofs.Turns.{workIn}
 use Rattle.demands.proofs.Devices.{after-marker, after-ring, after-windows}
+use Rattle.state.specs.Slots.{isFull}
 
 -- a sound state has four sound rings
 rings-sound : (d : Device) → stateSound d ≡ true → (q : ℕ) → q < 4 → ringSound (ringOf d q) ≡ true
@@ -51,7 +53,7 @@ abbrev Numbers : (ℕ → Type 0) → Verdict → Type 0
 Numbers P Sound = (n : ℕ) → n ≤ 1 → P n
 Numbers P (Refused why) = P (refusalNumber why)
 
-module _ (limit : ℕ) (d : Device) (call : Call) where
+module _ (d : Device) (call : Call) where
   -- the ring that a turn served is sound: its cursor ends in its bytes, and its frame is one that SET_FB did not refuse
   module _ (q : ℕ) (sound : verdictOn d call ≡ Sound) (pick : pickIn d call ≡ RingOf q) (state : stateSound d ≡ true) where
     cursor-inside : ringOf d q .cursor + headIn d call q .size ≤ 65536
@@ -59,61 +61,61 @@ module _ (limit : ℕ) (d : Device) (call : Call) where
         let s = picked-servable d call q sound pick in
         omega (arith, whole-inside (ringIn call q) (ringOf d q .cursor) (s .whole))
 
-    frame-passes : isDone (heldFault (workIn limit d call q .performed .frame) (ringOf d q .window .length)) ≡ true
+    frame-passes : isDone (heldFault (workIn d call q .performed .frame) (ringOf d q .window .length)) ≡ true
     unfolding ringSound
     frame-passes =
         let s = picked-servable d call q sound pick in
         let c = headIn d call q in
         let long = window-length (ringOf d q .window .start) (ringOf d q .window .length) (call .memory) (s .fits) in
         let held = both-right (leb (ringOf d q .cursor) 65536) _ (rings-sound d state q (s .number)) in
-        rw long at (performed-frame c (slotOf d (c .rdst)) (ringIn call q) (windowIn d call q) (ringOf d q .frame) (call .pack) (call .pipe) limit (rw long held))
+        rw long at (performed-frame c (isFull (slotOf d (c .rdst))) (ringIn call q) (windowIn d call q) (ringOf d q .frame) (call .pack) (call .pipe) (limitOf d) (rw long held))
 
-    served-sound : stateSound (servedIn limit d call q .turned .device) ≡ true
+    served-sound : stateSound (servedIn d call q .turned .device) ≡ true
     unfolding servedOf finished ringAfter ringSound
     served-sound =
         let c = headIn d call q in
-        let p = workIn limit d call q .performed in
+        let p = workIn d call q .performed in
         sound-if _ (rw (after-marker d q c p) (next-below q (picked-servable d call q sound pick .number)))
         (λ n four.
         after-ring d q c p (λ r. ringSound r ≡ true) n (λ e. rw (le-leb _ 65536 cursor-inside, frame-passes)) (rings-sound d state n four))
 
-  left-sound : stateSound d ≡ true → stateSound (leftBy limit d call) ≡ true
+  left-sound : stateSound d ≡ true → stateSound (leftBy d call) ≡ true
   unfolding unchanged
   left-sound state =
-      turn-cases limit d call (λ a. stateSound (a .turned .device) ≡ true)
+      turn-cases d call (λ a. stateSound (a .turned .device) ≡ true)
       (λ why v. state)
       (λ sound p. state)
       (λ q sound p. served-sound q sound p state)
 
-  left-windows : (n : ℕ) → ringOf (leftBy limit d call) n .window ≡ ringOf d n .window
+  left-windows : (n : ℕ) → ringOf (leftBy d call) n .window ≡ ringOf d n .window
   unfolding unchanged servedOf finished
   left-windows n =
-      turn-cases limit d call (λ a. ringOf (a .turned .device) n .window ≡ ringOf d n .window)
+      turn-cases d call (λ a. ringOf (a .turned .device) n .window ≡ ringOf d n .window)
       (λ why v. refl)
       (λ sound p. refl)
-      (λ q sound p. after-windows d q (headIn d call q) (workIn limit d call q .performed) n)
+      (λ q sound p. after-windows d q (headIn d call q) (workIn d call q .performed) n)
 
-  left-fits : (memory : ℕ) → windowsFit (leftBy limit d call) memory ≡ windowsFit d memory
+  left-fits : (memory : ℕ) → windowsFit (leftBy d call) memory ≡ windowsFit d memory
   unfolding windowsFit
   left-fits memory = rw (left-windows 0, left-windows 1, left-windows 2, left-windows 3)
 
   -- a refused call's number is its refusal's
-  refused-number : {why : Refusal} → verdictOn d call ≡ Refused why → answerNumber (answerOf limit d call) ≡ refusalNumber why
+  refused-number : {why : Refusal} → verdictOn d call ≡ Refused why → answerNumber (answerOf d call) ≡ refusalNumber why
   unfolding turnOf judgedOf unchanged answerNumber
-  refused-number e = ap (λ v. answerNumber (judgedOf limit d call v .turned .answer)) e
+  refused-number e = ap (λ v. answerNumber (judgedOf d call v .turned .answer)) e
 
   -- one that is not refused is idle or served
-  heard-number : verdictOn d call ≡ Sound → answerNumber (answerOf limit d call) ≤ 1
+  heard-number : verdictOn d call ≡ Sound → answerNumber (answerOf d call) ≤ 1
   unfolding unchanged servedOf finished reportOf answerNumber
   heard-number sound =
-      turn-cases limit d call (λ a. answerNumber (a .turned .answer) ≤ 1)
+      turn-cases d call (λ a. answerNumber (a .turned .answer) ≤ 1)
       (λ why v. absurd (let z : _≡_ {A = ℕ} 0 1 = cc in omega arith))
       (λ sound p. lit≤ tt)
       (λ q sound p. lit≤ tt)
 
   -- what each number has where it may be given, a call's number has
   number-has : (P : ℕ → Type 0) → (windowsFit d (length (call .memory)) ≡ false → P 101) → (stateSound d ≡ false → P 102)
-      → P 103 → P 104 → P 105 → ((n : ℕ) → n ≤ 1 → P n) → P (answerNumber (answerOf limit d call))
+      → P 103 → P 104 → P 105 → ((n : ℕ) → n ≤ 1 → P n) → P (answerNumber (answerOf d call))
   unfolding verdictOn verdictOf refusalNumber
   number-has P memory state rings pipe pack heard =
       go (verdictOn d call) refl
@@ -128,18 +130,18 @@ module _ (limit : ℕ) (d : Device) (call : Call) where
       state)
       memory)
     where
-      go : (v : Verdict) → verdictOn d call ≡ v → Numbers P v → P (answerNumber (answerOf limit d call))
+      go : (v : Verdict) → verdictOn d call ≡ v → Numbers P v → P (answerNumber (answerOf d call))
       go Sound e numbers = numbers _ (heard-number e)
       go (Refused why) e numbers = rw (refused-number e) numbers
 
   -- so 101 and 102 are no number of a call where they may not be given
   number-not : (k : ℕ) → 2 ≤ k → k ≤ 102 → (windowsFit d (length (call .memory)) ≡ false → k ≡ 101 → ⊥) → (stateSound d ≡ false → k ≡ 102 → ⊥)
-      → answerNumber (answerOf limit d call) ≡ k → ⊥
+      → answerNumber (answerOf d call) ≡ k → ⊥
   number-not k low high memory state =
       number-has (λ n. n ≡ k → ⊥) (λ e same. memory e (sym same)) (λ e same. state e (sym same))
       (λ same. omega arith) (λ same. omega arith) (λ same. omega arith) (λ n h same. omega arith)
 
-  stays-sound : StaysSound limit d call
+  stays-sound : StaysSound d call
   stays-sound = record {
     state = left-sound;
     windows = left-windows;
@@ -148,7 +150,7 @@ module _ (limit : ℕ) (d : Device) (call : Call) where
     not-101 = λ fits. number-not 101 (lit≤ tt) (lit≤ tt) (λ e same. let z : _≡_ {A = ℕ} 0 1 = cc in omega arith) (λ e same. omega arith);
   }
 
-  refused-for-lent : stateSound d ≡ true → windowsFit d (length (call .memory)) ≡ true → RefusedForLent limit d call
+  refused-for-lent : stateSound d ≡ true → windowsFit d (length (call .memory)) ≡ true → RefusedForLent d call
   unfolding verdictOn verdictOf either refusalNumber
   refused-for-lent state fits = record {
     rings = λ no. refused-number {why = Refusal.Rings} (rw (fits, state, no));
@@ -159,11 +161,11 @@ module _ (limit : ℕ) (d : Device) (call : Call) where
 
 pub turn-stays-sound : TurnStaysSound
 unfolding TurnStaysSound
-turn-stays-sound limit d call = stays-sound limit d call
+turn-stays-sound d call = stays-sound d call
 
 pub sound-refusals : SoundRefusals
 unfolding SoundRefusals
-sound-refusals limit d call = refused-for-lent limit d call
+sound-refusals d call = refused-for-lent d call
 
 fresh-sound : (w0 w1 w2 w3 : Window) → stateSound (freshDevice w0 w1 w2 w3) ≡ true
 unfolding freshDevice ringOf stateSound ringSound heldFault outcomeNumber
@@ -192,13 +194,13 @@ fresh-makes-sound memory w0 w1 w2 w3 = record {
 
 pub calls-stay-sound : CallsStaySound
 unfolding CallsStaySound
-calls-stay-sound limit memory d [] state fits = none
-calls-stay-sound limit memory d (call ∷ calls) state fits =
-    more (record { not-102 = stays-sound limit d call .not-102 state; lent = λ same. refused-for-lent limit d call state (rw same fits) })
-    (calls-stay-sound limit memory (leftBy limit d call) calls (left-sound limit d call state) (left-fits limit d call memory ∙ fits))
+calls-stay-sound memory d [] state fits = none
+calls-stay-sound memory d (call ∷ calls) state fits =
+    more (record { not-102 = stays-sound d call .not-102 state; lent = λ same. refused-for-lent d call state (rw same fits) })
+    (calls-stay-sound memory (leftBy d call) calls (left-sound d call state) (left-fits d call memory ∙ fits))
 
 pub fresh-stays-sound : FreshStaysSound
 unfolding FreshStaysSound FreshMakesSound CallsStaySound
-fresh-stays-sound limit memory w0 w1 w2 w3 calls made =
+fresh-stays-sound memory w0 w1 w2 w3 calls made =
     let fresh = fresh-makes-sound memory w0 w1 w2 w3 in
-    calls-stay-sound limit memory (freshOf memory w0 w1 w2 w3 .device) calls (fresh .state) (fresh .windows made)
+    calls-stay-sound memory (freshOf memory w0 w1 w2 w3 .device) calls (fresh .state) (fresh .windows made)

@@ -5,7 +5,7 @@ use Prim.Native.Nat.{ℕ, _+_, _≤_, _<_}
 use native.Mathlib.Omega.{arith}
 use lib.Dec.{lit<}
 use Rattle.device.proofs.Verdicts.{each-of-four}
-use Rattle.device.specs.Left.{sumOf}
+use Rattle.device.specs.Untaken.{sumOf}
 
 -- one of four grows by x, and so does the sum
 pub sum-grows : (f g : ℕ → ℕ) (x r : ℕ) → r < 4 → ((n : ℕ) → (n ≡ r → ⊥) → g n ≡ f n) → g r ≡ f r + x

@@ -11,11 +11,10 @@ use Rattle.instruction.specs.Vectors.{quadOf, withQuad, lanesOfQuads, broadcast
 use Rattle.kernel.specs.Registers.{startRegisters, withVector}
 use Rattle.kernel.specs.Thread.{started, writtenVector, movedTo, advanced}
 use Rattle.kernel.specs.Step.{goesOn, applied, executed}
-use Rattle.kernel.specs.Run.{stepLimit}
 use Rattle.kernel.proofs.Examples as kernel
 use Rattle.kernel.specs.Examples.{afterWord}
-use Rattle.demands.specs.Table.{colored, holding, vector, Table}
-use Rattle.state.specs.Device.{freshDevice, ringOf, slotOf, withRing, withSlots, withMarker}
+use Rattle.demands.specs.Table.{framed, colored, holding, vector, Table}
+use Rattle.state.specs.Device.{freshDevice, ringOf, slotOf, withRing, withSlots, withMarker, limitOf}
 use Rattle.state.specs.Slots.{emittedIn}
 use Rattle.state.specs.Refusal.{windowFits, memoryFits, windowsFit, ringSound, stateSound, ringFits, ringsFit, verdictOf}
 use Rattle.state.specs.Ready.{readyWith, readyWhere, readyAt, nextRing, seek, bytesOfRing, pickOf}
@@ -44,7 +43,7 @@ unfolding afterWord started startRegisters executed decoded opOf vectorOf unused
 vadd = (refl, refl)
 
 pub table : Table
-unfolding answerNumber valuesOf colored freshDevice ringOf slotOf withRing withSlots emittedIn withMarker windowFits memoryFits windowsFit ringSound stateSound ringFits ringsFit verdictOf readyWith readyWhere readyAt nextRing seek bytesOfRing pickOf unchanged fenceOf emitTo ringAfter deviceAfter reportOf finished servedOf pickedOf judgedOf verdictOn turnOf either rowOf waitSize payloadSize targetAt commandAt isWhole outcomeNumber unknownOpcode wrongPayloadBit noSuchSlot headerFault frameMisaligned frameUnfit frameFault heldFault strideOf isRectangle sizeOf widthOf heightOf tooNarrow endOf slotFault misaligned unframed outside unfitFrame outOfRange unfitDispatch checkOf emits interrupts wordsRead leaves ranOutcome dispatchedBy afterDispatch heldBy workOf orElse faultOf guarded performedOf after halfAt wordAt withByte withHalf withWord rectangleEnd filledRow filled windowOf putBack kernelCount firstWord kernelWords codeCount liesInCode allLie soundPack kernelOf
+unfolding answerNumber valuesOf colored freshDevice limitOf ringOf slotOf withRing withSlots emittedIn withMarker windowFits memoryFits windowsFit ringSound stateSound ringFits ringsFit verdictOf readyWith readyWhere readyAt nextRing seek bytesOfRing pickOf unchanged fenceOf emitTo ringAfter deviceAfter reportOf finished servedOf pickedOf judgedOf verdictOn turnOf either rowOf waitSize payloadSize targetAt commandAt isWhole outcomeNumber unknownOpcode wrongPayloadBit noSuchSlot headerFault frameMisaligned frameUnfit frameFault heldFault strideOf isRectangle sizeOf widthOf heightOf tooNarrow endOf slotFault misaligned unframed outside unfitFrame outOfRange unfitDispatch checkOf emits interrupts wordsRead leaves ranOutcome dispatchedBy afterDispatch heldBy workOf orElse faultOf guarded performedOf after halfAt wordAt withByte withHalf withWord rectangleEnd filledRow filled windowOf putBack kernelCount firstWord kernelWords codeCount liesInCode allLie soundPack kernelOf
 table = record {
   p1 = ((refl, refl), refl);
   p2 = (refl, refl);
@@ -54,12 +53,12 @@ table = record {
   p6 = kernel.p6;
   p7 = kernel.p7 .1;
   p8 = (
-    λ groups threads window hg ht small. let run = kernel.p8 stepLimit groups threads window (omega arith) hg ht small in record { outcome = rw run; kept = rw run },
-    let run = kernel.p8 stepLimit 1 1 (replicate 64 0) (omega arith) (omega arith) (omega arith) (omega arith) in (refl, rw run),
+    λ limit groups threads window hl hg ht small. let run = kernel.p8 limit groups threads window hl hg ht small in record { outcome = rw run; kept = rw run },
+    let run = kernel.p8 (limitOf (framed 64 0)) 1 1 (replicate 64 0) (omega arith) (omega arith) (omega arith) (omega arith) in (refl, rw run),
   );
   p9 = (
-    λ groups threads window hg ht. let run = kernel.p9 stepLimit groups threads window hg ht in record { outcome = rw run; kept = rw run },
-    let run = kernel.p9 stepLimit 1 1 (replicate 64 0) (omega arith) (omega arith) in (refl, rw run),
+    λ limit groups threads window hg ht. let run = kernel.p9 limit groups threads window hg ht in record { outcome = rw run; kept = rw run },
+    let run = kernel.p9 (limitOf (framed 64 0)) 1 1 (replicate 64 0) (omega arith) (omega arith) in (refl, rw run),
   );
   p10 = vadd;
   p11 = (record { served = refl; ring = refl }, record { served = refl; ring = refl }, record { served = refl; ring = refl }, record { served = refl; ring = refl });

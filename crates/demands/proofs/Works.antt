@@ -7,7 +7,7 @@ use mathlib.Core.Logic.{inr}
 use Prim.Native.Nat.{ℕ, _+_, _*_, _≤_}
 use native.Mathlib.Omega.{arith}
 use lib.ListN.{length, getD}
-use borrow.Author.Tests.{ne-eqb, eqb-false}
+use borrow.Author.Tests.{eqb-false}
 use Rattle.memory.proofs.Others.{transferred-other}
 use Rattle.command.specs.declared.header.Command.{Command}
 use Rattle.command.specs.declared.frame.Frame.{Frame}
@@ -31,9 +31,9 @@ use Rattle.demands.specs.Keeps.{PipeKept}
 use Rattle.demands.specs.Reports.{SetsFrame}
 
 -- a full slot is a fault of a command with its emit bit set
-full-faulty : (c : Command) (slot : ℕ) → emitBit (c .flags) ≡ true → slot ≡ 4294967295 → isDone (slotFault c slot) ≡ false
+full-faulty : (c : Command) (full : Bool) → emitBit (c .flags) ≡ true → full ≡ true → isDone (slotFault c full) ≡ false
 unfolding slotFault either outcomeNumber
-full-faulty c slot bit full = rw (bit, full)
+full-faulty c full bit is = rw (bit, is)
 
 -- any other slot is not
 not-full : (b : Bool) → isDone (either (b && false) Outcome.SlotFull Outcome.Done) ≡ true
@@ -41,9 +41,9 @@ unfolding either outcomeNumber
 not-full true = refl
 not-full false = refl
 
-free-fine : (c : Command) (slot : ℕ) → (slot ≡ 4294967295 → ⊥) → isDone (slotFault c slot) ≡ true
+free-fine : (c : Command) (full : Bool) → full ≡ false → isDone (slotFault c full) ≡ true
 unfolding slotFault
-free-fine c slot free = rw (ne-eqb slot 4294967295 free) (not-full (emitBit (c .flags)))
+free-fine c full free = rw free (not-full (emitBit (c .flags)))
 
 and-true : (b : Bool) → (b && true) ≡ b
 and-true true = refl
@@ -54,33 +54,33 @@ read-words : (c : Command) → c .opcode ≡ readMem → wordsRead c Outcome.Don
 unfolding wordsRead either outcomeNumber
 read-words c e = rw e
 
-module _ (c : Command) (slot : ℕ) (ring window : List ℕ) (frame : Frame) (pack pipe : List ℕ) (limit : ℕ) where
+module _ (c : Command) (full : Bool) (ring window : List ℕ) (frame : Frame) (pack pipe : List ℕ) (limit : ℕ) where
   abbrev work : Left
-  work = performedOf c slot ring window frame pack pipe limit
+  work = performedOf c full ring window frame pack pipe limit
 
   abbrev outcome : Outcome
   outcome = work .performed .outcome
 
-  -- a slot that holds 4,294,967,295 is never added to
-  pub full-slot-stays : emits c outcome ≡ true → slot ≡ 4294967295 → ⊥
-  full-slot-stays e full =
-      let on = sym (emits-when c slot ring window frame pack pipe limit) ∙ e in
-      let bit = both-left (emitBit (c .flags)) (isDone (headerFault c) && isDone (slotFault c slot)) on in
-      let fine = both-right (isDone (headerFault c)) (isDone (slotFault c slot)) (both-right (emitBit (c .flags)) _ on) in
-      let faulty = full-faulty c slot bit full in
+  -- a full slot is never added to
+  pub full-slot-stays : emits c outcome ≡ true → full ≡ true → ⊥
+  full-slot-stays e is =
+      let on = sym (emits-when c full ring window frame pack pipe limit) ∙ e in
+      let bit = both-left (emitBit (c .flags)) (isDone (headerFault c) && isDone (slotFault c full)) on in
+      let fine = both-right (isDone (headerFault c)) (isDone (slotFault c full)) (both-right (emitBit (c .flags)) _ on) in
+      let faulty = full-faulty c full bit is in
       let z : _≡_ {A = ℕ} 0 1 = cc in omega arith
 
   -- unless its slot is full, a command adds to it exactly if it is one that emits
-  pub emits-when-sound : (slot ≡ 4294967295 → ⊥) → emits c outcome ≡ isEmitting c
+  pub emits-when-sound : full ≡ false → emits c outcome ≡ isEmitting c
   unfolding isEmitting
   emits-when-sound free =
-      emits-when c slot ring window frame pack pipe limit
-      ∙ ap (λ s. emitBit (c .flags) && (isDone (headerFault c) && s)) (free-fine c slot free)
+      emits-when c full ring window frame pack pipe limit
+      ∙ ap (λ s. emitBit (c .flags) && (isDone (headerFault c) && s)) (free-fine c full free)
       ∙ ap (λ h. emitBit (c .flags) && h) (and-true (isDone (headerFault c)))
 
   -- the window keeps its length
   pub window-stays : length (work .window) ≡ length window
-  window-stays = performed-lengths c slot ring window frame pack pipe limit .0
+  window-stays = performed-lengths c full ring window frame pack pipe limit .0
 
   -- the pipe's bytes past the words read stay
   abbrev Rest : Left → Type 0
@@ -92,9 +92,9 @@ module _ (c : Command) (slot : ℕ) (ring window : List ℕ) (frame : Frame) (pa
   pub pipe-stays : PipeKept (wordsRead c outcome) pipe (work .pipe)
   unfolding leaves afterDispatch dispatchedBy
   pipe-stays = record {
-    long = performed-lengths c slot ring window frame pack pipe limit .1;
+    long = performed-lengths c full ring window frame pack pipe limit .1;
     rest =
-        performed-has c slot ring window frame pack pipe limit Rest
+        performed-has c full ring window frame pack pipe limit Rest
         (λ fine.
         work-has c ring window frame pack pipe limit Rest
         (λ e i h. refl)
@@ -112,7 +112,7 @@ module _ (c : Command) (slot : ℕ) (ring window : List ℕ) (frame : Frame) (pa
   pub frame-set : SetsFrame c (outcomeNumber outcome) → work .performed .frame ≡ heldBy c
   unfolding leaves
   frame-set sets =
-      performed-has c slot ring window frame pack pipe limit
+      performed-has c full ring window frame pack pipe limit
       (λ l. outcomeNumber (l .performed .outcome) ≡ 0 → l .performed .frame ≡ heldBy c)
       (λ fine done. rw (work-set c ring window frame pack pipe limit (sets .0)))
       (λ faulty done. absurd (eqb-false _ _ faulty done))
@@ -125,7 +125,7 @@ module _ (c : Command) (slot : ℕ) (ring window : List ℕ) (frame : Frame) (pa
   pub frame-kept : FrameKept work
   unfolding leaves afterDispatch outcomeNumber
   frame-kept =
-      performed-has c slot ring window frame pack pipe limit FrameKept
+      performed-has c full ring window frame pack pipe limit FrameKept
       (λ fine.
       work-has c ring window frame pack pipe limit FrameKept
       (λ e not. refl)

@@ -11,9 +11,9 @@ use Rattle.state.specs.declared.device.Device.{Device}
 use Rattle.device.specs.declared.turn.Answer.{Answer}
 use Rattle.state.specs.Device.{Shaped, freshDevice}
 use Rattle.device.specs.Answer.{answerNumber, valuesOf}
-use Rattle.device.specs.Turn.{Call}
-use Rattle.device.specs.Left.{leftOf, sumOf}
-use Rattle.demands.specs.Calls.{ringIn, answerOf, leftBy, numberIn, heard, EachHeard}
+use Rattle.device.specs.Turn.{Call, ringIn}
+use Rattle.device.specs.Untaken.{sumOf, untakenIn}
+use Rattle.demands.specs.Calls.{answerOf, leftBy, numberIn, heard, EachHeard}
 
 -- the call lends R q as the bytes of each ring q
 abbrev pub Lends : (ℕ → List ℕ) → Call → Type 0
@@ -24,23 +24,19 @@ unfoldable pub served : Answer → ℕ → ℕ
 served answer q = either (eqb (answerNumber answer) 0 && eqb q (valuesOf answer .ring)) 1 0
 
 -- how many commands of ring q the calls take
-unfoldable pub taken : ℕ → Device → List Call → ℕ → ℕ
-taken limit d [] q = 0
-taken limit d (call ∷ calls) q = served (answerOf limit d call) q + taken limit (leftBy limit d call) calls q
-
--- the bytes that are left of rings whose bytes are R
-abbrev pub leftIn : (ℕ → List ℕ) → Device → ℕ
-leftIn R d = sumOf 4 (λ q. leftOf d q (R q))
+unfoldable pub taken : Device → List Call → ℕ → ℕ
+taken d [] q = 0
+taken d (call ∷ calls) q = served (answerOf d call) q + taken (leftBy d call) calls q
 
 -- one of the calls answers idle
-pub data SaysIdle (limit : ℕ) : Device → List Call → Type 0 where
-  here : {d : Device} {call : Call} {calls : List Call} → numberIn limit d call ≡ 1 → SaysIdle limit d (call ∷ calls)
-  later : {d : Device} {call : Call} {calls : List Call} → SaysIdle limit (leftBy limit d call) calls → SaysIdle limit d (call ∷ calls)
+pub data SaysIdle : Device → List Call → Type 0 where
+  here : {d : Device} {call : Call} {calls : List Call} → numberIn d call ≡ 1 → SaysIdle d (call ∷ calls)
+  later : {d : Device} {call : Call} {calls : List Call} → SaysIdle (leftBy d call) calls → SaysIdle d (call ∷ calls)
 
--- the calls that serve a ring are no more than a sixteenth of the bytes left
+-- the calls that serve a ring are no more than a sixteenth of the bytes not yet taken
 abbrev pub BoundedFrom : Device → Type 0
 BoundedFrom d =
-    (limit : ℕ) (R : ℕ → List ℕ) (calls : List Call) → EachHeard (Lends R) limit d calls → 16 * sumOf 4 (taken limit d calls) ≤ leftIn R d
+    (R : ℕ → List ℕ) (calls : List Call) → EachHeard (Lends R) d calls → 16 * sumOf 4 (taken d calls) ≤ untakenIn R d
 
 -- of every device with four rings
 unfoldable pub TurnsBounded : Type 0
@@ -49,15 +45,15 @@ TurnsBounded = (d : Device) → Shaped d → BoundedFrom d
 -- if more calls than that are not refused, one of them answers idle
 abbrev pub IdleInTimeFrom : Device → Type 0
 IdleInTimeFrom d =
-    (limit : ℕ) (R : ℕ → List ℕ) (calls : List Call) → EachHeard (Lends R) limit d calls
-    → leftIn R d < 16 * heard limit d calls → SaysIdle limit d calls
+    (R : ℕ → List ℕ) (calls : List Call) → EachHeard (Lends R) d calls
+    → untakenIn R d < 16 * heard d calls → SaysIdle d calls
 
 -- of every device with four rings
 unfoldable pub IdleInTime : Type 0
 IdleInTime = (d : Device) → Shaped d → IdleInTimeFrom d
 
--- from fresh, the bytes left are those of the four rings
+-- from fresh, the bytes not yet taken are those of the four rings
 unfoldable pub FreshIdleInTime : Type 0
 FreshIdleInTime =
-    (limit : ℕ) (w0 w1 w2 w3 : Window) (R : ℕ → List ℕ) (calls : List Call) → EachHeard (Lends R) limit (freshDevice w0 w1 w2 w3) calls
-    → sumOf 4 (λ q. length (R q)) < 16 * heard limit (freshDevice w0 w1 w2 w3) calls → SaysIdle limit (freshDevice w0 w1 w2 w3) calls
+    (w0 w1 w2 w3 : Window) (R : ℕ → List ℕ) (calls : List Call) → EachHeard (Lends R) (freshDevice w0 w1 w2 w3) calls
+    → sumOf 4 (λ q. length (R q)) < 16 * heard (freshDevice w0 w1 w2 w3) calls → SaysIdle (freshDevice w0 w1 w2 w3) calls

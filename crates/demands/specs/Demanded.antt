@@ -1,6 +1,5 @@
 -- What is demanded of the turns of a device, with nothing asked of it: the contract of `of_every_device` says it of every
 -- `Device`. What is said from fresh (`Idle.IdleIsDone` and its like) asks nothing either.
-use Prim.Native.Nat.{ℕ}
 use Rattle.state.specs.declared.device.Device.{Device}
 use Rattle.device.specs.Turn.{Call}
 use Rattle.demands.specs.Keeps.{Keeps}
@@ -12,11 +11,11 @@ use Rattle.demands.specs.Bounded.{BoundedFrom, IdleInTimeFrom}
 
 pub record Demanded (d : Device) : Type 0 where
   -- demand 1: what a turn leaves as it was, and that a sound device stays sound
-  pub keeps : (limit : ℕ) (call : Call) → Keeps limit d call
-  pub stays-sound : (limit : ℕ) (call : Call) → StaysSound limit d call
+  pub keeps : (call : Call) → Keeps d call
+  pub stays-sound : (call : Call) → StaysSound d call
   -- demand 2: what is reported, and each step of each thread
   pub reports : ReportsFrom d
-  pub steps : (limit : ℕ) (call : Call) → StepByStep limit d call
+  pub steps : (call : Call) → StepByStep d call
   -- demand 3: a ready ring is served within four turns, and turns over unchanging rings come to an end
   pub four-turns : FourTurnsFrom d
   pub four-turns-by-head : FourTurnsByHeadFrom d

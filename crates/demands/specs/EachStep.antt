@@ -35,7 +35,8 @@ use Rattle.command.specs.Outcome.{outcomeNumber, isDone}
 use Rattle.work.specs.Work.{ranOutcome}
 use Rattle.work.specs.Perform.{faultOf}
 use Rattle.state.specs.declared.device.Device.{Device}
-use Rattle.state.specs.Device.{ringOf, slotOf}
+use Rattle.state.specs.Slots.{isFull}
+use Rattle.state.specs.Device.{limitOf, ringOf, slotOf}
 use Rattle.device.specs.Turn.{Call, turnOf}
 use Rattle.demands.specs.Calls.{headIn, numberIn, valuesIn, ringServed}
 
@@ -46,27 +47,27 @@ windowIn d call q = windowOf (ringOf d q .window .start) (ringOf d q .window .le
 -- ring q's head command is a DISPATCH_1D with no fault
 pub record Dispatches (d : Device) (call : Call) (q : ℕ) : Type 0 where
   pub opcode : headIn d call q .opcode ≡ dispatch1D
-  pub no-fault : isDone (faultOf (headIn d call q) (slotOf d (headIn d call q .rdst)) (length (windowIn d call q)) (ringOf d q .frame) (call .pack)) ≡ true
+  pub no-fault : isDone (faultOf (headIn d call q) (isFull (slotOf d (headIn d call q .rdst))) (length (windowIn d call q)) (ringOf d q .frame) (call .pack)) ≡ true
 
 -- its kernel, number arg2 of the pack
 abbrev pub kernelIn : Device → Call → ℕ → Kernel
 kernelIn d call q = kernelOf (call .pack) (headIn d call q .arg2)
 
 -- its threads, arg0 groups of arg1, on its ring's window
-abbrev pub threadsIn : ℕ → Device → Call → ℕ → Dispatched
-threadsIn limit d call q =
+abbrev pub threadsIn : Device → Call → ℕ → Dispatched
+threadsIn d call q =
     let c = headIn d call q in
-    threadsOf (c .arg0 * c .arg1) limit (call .pack) (kernelIn d call q) (c .arg0) (c .arg1) (windowIn d call q)
+    threadsOf (c .arg0 * c .arg1) (limitOf d) (call .pack) (kernelIn d call q) (c .arg0) (c .arg1) (windowIn d call q)
 
 -- thread j of group g as it starts
 abbrev pub threadIn : Device → Call → ℕ → ℕ → ℕ → Thread
 threadIn d call q g j = started g j (headIn d call q .arg1) (headIn d call q .arg0)
 
 -- the turn leaves what the threads leave: the window is put back, and the outcome is theirs
-pub record Leaves (limit : ℕ) (d : Device) (call : Call) (threads : Dispatched) : Type 0 where
-  pub memory : turnOf limit d call .memory ≡ putBack (ringOf d (ringServed limit d call) .window .start) (threads .window) (call .memory)
-  pub pipe : turnOf limit d call .pipe ≡ call .pipe
-  pub outcome : valuesIn limit d call .outcome ≡ outcomeNumber (ranOutcome (threads .ran))
+pub record Leaves (d : Device) (call : Call) (threads : Dispatched) : Type 0 where
+  pub memory : turnOf d call .memory ≡ putBack (ringOf d (ringServed d call) .window .start) (threads .window) (call .memory)
+  pub pipe : turnOf d call .pipe ≡ call .pipe
+  pub outcome : valuesIn d call .outcome ≡ outcomeNumber (ranOutcome (threads .ran))
 
 -- the threads one after another
 pub record ThreadsInOrder (limit : ℕ) (pack : List ℕ) (kernel : Kernel) (groups threads : ℕ) (window : List ℕ) : Type 0 where
@@ -153,35 +154,35 @@ pub record FirstOutOfSteps (limit : ℕ) (pack : List ℕ) (kernel : Kernel) (gr
   pub still : stepsOf limit limit pack kernel (started group thread threads groups) window-before .stepped .progress ≡ Running
 
 -- that of the dispatch that is ring q's head command
-abbrev pub OutOfStepsIn : ℕ → Device → Call → ℕ → Type 0
-OutOfStepsIn limit d call q =
+abbrev pub OutOfStepsIn : Device → Call → ℕ → Type 0
+OutOfStepsIn d call q =
     let c = headIn d call q in
-    FirstOutOfSteps limit (call .pack) (kernelIn d call q) (c .arg0) (c .arg1) (windowIn d call q)
+    FirstOutOfSteps (limitOf d) (call .pack) (kernelIn d call q) (c .arg0) (c .arg1) (windowIn d call q)
 
 -- the number of the outcome that a stop gives
 abbrev pub stopNumber : Stop → ℕ
 stopNumber why = outcomeNumber (ranOutcome (StoppedFor why))
 
 -- a turn on any input, down to each step
-pub record StepByStep (limit : ℕ) (d : Device) (call : Call) : Type 0 where
+pub record StepByStep (d : Device) (call : Call) : Type 0 where
   -- a turn that serves a DISPATCH_1D with no fault leaves what its threads leave
-  pub served : numberIn limit d call ≡ 0 → Dispatches d call (ringServed limit d call)
-      → Leaves limit d call (threadsIn limit d call (ringServed limit d call))
+  pub served : numberIn d call ≡ 0 → Dispatches d call (ringServed d call)
+      → Leaves d call (threadsIn d call (ringServed d call))
   -- its threads run in order
-  pub threads : (kernel : Kernel) (groups threads : ℕ) (window : List ℕ) → ThreadsInOrder limit (call .pack) kernel groups threads window
+  pub threads : (kernel : Kernel) (groups threads : ℕ) (window : List ℕ) → ThreadsInOrder (limitOf d) (call .pack) kernel groups threads window
   -- each takes its steps in order
-  pub steps : (kernel : Kernel) (t : Thread) (window : List ℕ) → StepsInOrder limit (call .pack) kernel t window
+  pub steps : (kernel : Kernel) (t : Thread) (window : List ℕ) → StepsInOrder (limitOf d) (call .pack) kernel t window
   -- each step is by the instruction's rule
-  pub step : (kernel : Kernel) (t : Thread) (window : List ℕ) → StepByRule limit (call .pack) kernel t window
-  -- step number `limit` of each thread of a served dispatch, thread j of group g, is tied to the state after that many steps
-  pub limits : numberIn limit d call ≡ 0 → Dispatches d call (ringServed limit d call) → (g j : ℕ)
-      → g < headIn d call (ringServed limit d call) .arg0 → j < headIn d call (ringServed limit d call) .arg1 → (window : List ℕ)
-      → LimitTied limit (call .pack) (kernelIn d call (ringServed limit d call)) (threadIn d call (ringServed limit d call) g j) window
+  pub step : (kernel : Kernel) (t : Thread) (window : List ℕ) → StepByRule (limitOf d) (call .pack) kernel t window
+  -- the limit's last step of each thread of a served dispatch, thread j of group g, is tied to the state after that many steps
+  pub limits : numberIn d call ≡ 0 → Dispatches d call (ringServed d call) → (g j : ℕ)
+      → g < headIn d call (ringServed d call) .arg0 → j < headIn d call (ringServed d call) .arg1 → (window : List ℕ)
+      → LimitTied (limitOf d) (call .pack) (kernelIn d call (ringServed d call)) (threadIn d call (ringServed d call) g j) window
   -- and the turn's outcome is 14 exactly if the first of them to stop is still running after the limit's steps
-  pub fourteen : numberIn limit d call ≡ 0 → Dispatches d call (ringServed limit d call)
-      → (valuesIn limit d call .outcome ≡ 14) ↔ OutOfStepsIn limit d call (ringServed limit d call)
+  pub fourteen : numberIn d call ≡ 0 → Dispatches d call (ringServed d call)
+      → (valuesIn d call .outcome ≡ 14) ↔ OutOfStepsIn d call (ringServed d call)
   -- the outcomes that the stops give
   pub numbers : (stopNumber NotListed ≡ 11) × (stopNumber OffTheKernel ≡ 12) × (stopNumber OutsideTheWindow ≡ 13) × (stopNumber OutOfSteps ≡ 14)
 
 unfoldable pub EachStep : Type 0
-EachStep = (limit : ℕ) (d : Device) (call : Call) → StepByStep limit d call
+EachStep = (d : Device) (call : Call) → StepByStep d call

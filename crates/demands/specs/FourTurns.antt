@@ -8,8 +8,8 @@ use Rattle.command.specs.Header.{commandAt}
 use Rattle.state.specs.declared.device.Device.{Device}
 use Rattle.state.specs.Device.{ringOf, SlotsFit}
 use Rattle.state.specs.Ready.{readyAt}
-use Rattle.device.specs.Turn.{Call}
-use Rattle.demands.specs.Calls.{ringIn, heard, EachHeard, Serves}
+use Rattle.device.specs.Turn.{Call, ringIn}
+use Rattle.demands.specs.Calls.{heard, EachHeard, Serves}
 
 -- r has the bytes of b from the cursor up to the end of its command there
 pub record SameHead (b : List ℕ) (cursor : ℕ) (r : List ℕ) : Type 0 where
@@ -19,8 +19,8 @@ pub record SameHead (b : List ℕ) (cursor : ℕ) (r : List ℕ) : Type 0 where
 -- ring q is ready with the bytes b, and keeps them in each call that is not refused; of four such calls one serves it
 abbrev pub FourTurnsFrom : Device → Type 0
 FourTurnsFrom d =
-    (limit q : ℕ) (b : List ℕ) (calls : List Call) → q < 4 → readyAt d q b ≡ true
-    → EachHeard (λ call. ringIn call q ≡ b) limit d calls → 4 ≤ heard limit d calls → Serves limit q (ringOf d q .cursor) d calls
+    (q : ℕ) (b : List ℕ) (calls : List Call) → q < 4 → readyAt d q b ≡ true
+    → EachHeard (λ call. ringIn call q ≡ b) d calls → 4 ≤ heard d calls → Serves q (ringOf d q .cursor) d calls
 
 -- of every device whose slots hold 32-bit numbers
 unfoldable pub FourTurns : Type 0
@@ -29,9 +29,9 @@ FourTurns = (d : Device) → SlotsFit d → FourTurnsFrom d
 -- it is enough that the bytes of its head command stay
 abbrev pub FourTurnsByHeadFrom : Device → Type 0
 FourTurnsByHeadFrom d =
-    (limit q : ℕ) (b : List ℕ) (calls : List Call) → q < 4 → readyAt d q b ≡ true
-    → EachHeard (λ call. SameHead b (ringOf d q .cursor) (ringIn call q)) limit d calls → 4 ≤ heard limit d calls
-    → Serves limit q (ringOf d q .cursor) d calls
+    (q : ℕ) (b : List ℕ) (calls : List Call) → q < 4 → readyAt d q b ≡ true
+    → EachHeard (λ call. SameHead b (ringOf d q .cursor) (ringIn call q)) d calls → 4 ≤ heard d calls
+    → Serves q (ringOf d q .cursor) d calls
 
 -- of every device whose slots hold 32-bit numbers
 unfoldable pub FourTurnsByHead : Type 0

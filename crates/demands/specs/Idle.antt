@@ -15,7 +15,7 @@ use Rattle.state.specs.declared.device.Device.{Device}
 use Rattle.state.specs.Device.{freshDevice}
 use Rattle.state.specs.Ready.{readyWith}
 use Rattle.device.specs.Turn.{Call}
-use Rattle.device.specs.Left.{sumOf}
+use Rattle.device.specs.Untaken.{sumOf}
 use Rattle.demands.specs.Calls.{leftBy, numberIn, EachHeard}
 use Rattle.demands.specs.Bounded.{Lends, taken}
 
@@ -53,14 +53,14 @@ pub data Order (R : ℕ → List ℕ) : (ℕ → ℕ) → Type 0 where
       → readyWith (nth (R q) (n q)) (countOf R n (nth (R q) (n q) .rdst)) ≡ true → Order R (oneMore n q)
 
 -- the device that the last of the calls leaves
-unfoldable pub lastOf : ℕ → Device → List Call → Device
-lastOf limit d [] = d
-lastOf limit d (call ∷ calls) = lastOf limit (leftBy limit d call) calls
+unfoldable pub lastOf : Device → List Call → Device
+lastOf d [] = d
+lastOf d (call ∷ calls) = lastOf (leftBy d call) calls
 
 -- after calls from fresh, one more call answers idle: then no order has started more of a ring than the device took
 unfoldable pub IdleIsDone : Type 0
 IdleIsDone =
-    (limit : ℕ) (w0 w1 w2 w3 : Window) (R : ℕ → List ℕ) (calls : List Call) (last : Call)
-    → EachHeard (Lends R) limit (freshDevice w0 w1 w2 w3) calls → Lends R last
-    → numberIn limit (lastOf limit (freshDevice w0 w1 w2 w3) calls) last ≡ 1
-    → (n : ℕ → ℕ) → Order R n → (q : ℕ) → n q ≤ taken limit (freshDevice w0 w1 w2 w3) calls q
+    (w0 w1 w2 w3 : Window) (R : ℕ → List ℕ) (calls : List Call) (last : Call)
+    → EachHeard (Lends R) (freshDevice w0 w1 w2 w3) calls → Lends R last
+    → numberIn (lastOf (freshDevice w0 w1 w2 w3) calls) last ≡ 1
+    → (n : ℕ → ℕ) → Order R n → (q : ℕ) → n q ≤ taken (freshDevice w0 w1 w2 w3) calls q

@@ -12,18 +12,18 @@ use Rattle.state.specs.Device.{emptyWindow, freshDevice, ringOf}
 use Rattle.state.specs.Refusal.{memoryFits}
 use Rattle.device.specs.Answer.{noValues, valuesOf, makingNumber}
 use Rattle.device.specs.Fresh.{freshOf}
-use Rattle.device.specs.Turn.{Call, After, turnOf}
+use Rattle.device.specs.Turn.{Call, TurnEnd, turnOf}
 use Rattle.demands.specs.Calls.{numberIn, valuesIn, ringServed}
 
 -- device, memory and pipe are as they were, and nothing is reported: zeros and no IRQ
-pub record Same (d : Device) (call : Call) (after : After) : Type 0 where
+pub record Same (d : Device) (call : Call) (after : TurnEnd) : Type 0 where
   pub device : after .turned .device ≡ d
   pub memory : after .memory ≡ call .memory
   pub pipe : after .pipe ≡ call .pipe
   pub values : valuesOf (after .turned .answer) ≡ noValues
 
 -- memory, pipe and every frame are as they were
-pub record SameBytes (d : Device) (call : Call) (after : After) : Type 0 where
+pub record SameBytes (d : Device) (call : Call) (after : TurnEnd) : Type 0 where
   pub memory : after .memory ≡ call .memory
   pub pipe : after .pipe ≡ call .pipe
   pub frame : (q : ℕ) → ringOf (after .turned .device) q .frame ≡ ringOf d q .frame
@@ -38,24 +38,24 @@ pub record PipeKept (words : ℕ) (pipe₀ pipe₁ : List ℕ) : Type 0 where
   pub rest : (i : ℕ) → 4 * words ≤ i → getD pipe₁ i 0 ≡ getD pipe₀ i 0
 
 -- of a turn on any input
-pub record Keeps (limit : ℕ) (d : Device) (call : Call) : Type 0 where
+pub record Keeps (d : Device) (call : Call) : Type 0 where
   -- a refused call changes nothing
-  pub refused : 101 ≤ numberIn limit d call → Same d call (turnOf limit d call)
+  pub refused : 101 ≤ numberIn d call → Same d call (turnOf d call)
   -- an idle one neither
-  pub idle : numberIn limit d call ≡ 1 → Same d call (turnOf limit d call)
+  pub idle : numberIn d call ≡ 1 → Same d call (turnOf d call)
   -- outcomes 1 to 10 change no memory, pipe or frame
-  pub faults : numberIn limit d call ≡ 0 → 1 ≤ valuesIn limit d call .outcome → valuesIn limit d call .outcome ≤ 10
-      → SameBytes d call (turnOf limit d call)
+  pub faults : numberIn d call ≡ 0 → 1 ≤ valuesIn d call .outcome → valuesIn d call .outcome ≤ 10
+      → SameBytes d call (turnOf d call)
   -- no byte outside the served ring's window changes
-  pub outside : numberIn limit d call ≡ 0 → (i : ℕ) → OutsideOf (ringOf d (ringServed limit d call) .window) i
-      → getD (turnOf limit d call .memory) i 0 ≡ getD (call .memory) i 0
+  pub outside : numberIn d call ≡ 0 → (i : ℕ) → OutsideOf (ringOf d (ringServed d call) .window) i
+      → getD (turnOf d call .memory) i 0 ≡ getD (call .memory) i 0
   -- the memory keeps its length
-  pub long : length (turnOf limit d call .memory) ≡ length (call .memory)
+  pub long : length (turnOf d call .memory) ≡ length (call .memory)
   -- the pipe keeps its length, and its bytes past the words read
-  pub pipe : numberIn limit d call ≡ 0 → PipeKept (valuesIn limit d call .words) (call .pipe) (turnOf limit d call .pipe)
+  pub pipe : numberIn d call ≡ 0 → PipeKept (valuesIn d call .words) (call .pipe) (turnOf d call .pipe)
 
 unfoldable pub TurnKeeps : Type 0
-TurnKeeps = (limit : ℕ) (d : Device) (call : Call) → Keeps limit d call
+TurnKeeps = (d : Device) (call : Call) → Keeps d call
 
 -- the making gives this device and this number
 pub record Gives (fresh : Fresh) (d : Device) (number : ℕ) : Type 0 where

@@ -9,7 +9,7 @@ use Rattle.kernel.specs.Dispatch.{Dispatched, ShowsRan}
 use Rattle.work.specs.declared.work.Performed.{Performed}
 use Rattle.work.specs.Work.{Left, Shows as ShowsWork}
 use Rattle.device.specs.declared.turn.Turned.{Turned}
-use Rattle.device.specs.Turn.{After, Shows as ShowsTurn}
+use Rattle.device.specs.Turn.{TurnEnd, Shows as ShowsTurn}
 
 pub record OneAnswer : Type 1 where
   -- of a function whose contract says that its result, or what it leaves, is x
@@ -24,5 +24,5 @@ pub record OneAnswer : Type 1 where
   pub command : (l : Left) (r₁ r₂ : Performed) (m₁ m₂ p₁ p₂ : List ℕ) → ShowsWork r₁ m₁ p₁ l → ShowsWork r₂ m₂ p₂ l
       → (r₁ ≡ r₂) × (m₁ ≡ m₂) × (p₁ ≡ p₂)
   -- of a turn
-  pub turn : (a : After) (r₁ r₂ : Turned) (m₁ m₂ p₁ p₂ : List ℕ) → ShowsTurn r₁ m₁ p₁ a → ShowsTurn r₂ m₂ p₂ a
+  pub turn : (a : TurnEnd) (r₁ r₂ : Turned) (m₁ m₂ p₁ p₂ : List ℕ) → ShowsTurn r₁ m₁ p₁ a → ShowsTurn r₂ m₂ p₂ a
       → (r₁ ≡ r₂) × (m₁ ≡ m₂) × (p₁ ≡ p₂)

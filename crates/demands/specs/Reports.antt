@@ -11,8 +11,8 @@ use Rattle.state.specs.declared.device.Device.{Device}
 use Rattle.state.specs.Device.{Shaped, SlotsFit, ringOf, slotOf}
 use Rattle.device.specs.Answer.{Values}
 use Rattle.state.specs.Ready.{readyAt, nextRing}
-use Rattle.device.specs.Turn.{Call}
-use Rattle.demands.specs.Calls.{ringIn, headIn, leftBy, numberIn, valuesIn}
+use Rattle.device.specs.Turn.{Call, ringIn}
+use Rattle.demands.specs.Calls.{headIn, leftBy, numberIn, valuesIn}
 
 -- the command signals: its emit bit is set and the outcome is 0 or 6 to 14
 abbrev pub Signals : Command → ℕ → Type 0
@@ -57,17 +57,17 @@ pub record Reported (d : Device) (q : ℕ) (c : Command) (v : Values) (after : D
   pub marker : after .marker ≡ nextRing q
 
 -- a served ring was ready, and its head command is reported
-pub record Serving (limit : ℕ) (d : Device) (call : Call) (v : Values) : Type 0 where
+pub record Serving (d : Device) (call : Call) (v : Values) : Type 0 where
   pub ring : v .ring < 4
   pub ready : readyAt d (v .ring) (ringIn call (v .ring)) ≡ true
-  pub reported : Reported d (v .ring) (headIn d call (v .ring)) v (leftBy limit d call)
+  pub reported : Reported d (v .ring) (headIn d call (v .ring)) v (leftBy d call)
   -- and the device that it leaves has the form of every device
-  pub shaped : Shaped (leftBy limit d call)
-  pub slots : SlotsFit (leftBy limit d call)
+  pub shaped : Shaped (leftBy d call)
+  pub slots : SlotsFit (leftBy d call)
 
 -- so it is with the values of every turn that serves
 abbrev pub ReportsFrom : Device → Type 0
-ReportsFrom d = (limit : ℕ) (call : Call) → numberIn limit d call ≡ 0 → Serving limit d call (valuesIn limit d call)
+ReportsFrom d = (call : Call) → numberIn d call ≡ 0 → Serving d call (valuesIn d call)
 
 -- of every device with four rings and 64 slots of 32 bits
 unfoldable pub TurnReports : Type 0

@@ -15,37 +15,37 @@ use Rattle.device.specs.Turn.{Call}
 use Rattle.demands.specs.Calls.{leftBy, numberIn, EachCall}
 
 -- of a turn from any device on any input
-pub record StaysSound (limit : ℕ) (d : Device) (call : Call) : Type 0 where
+pub record StaysSound (d : Device) (call : Call) : Type 0 where
   -- a state that is not refused as 102 leaves one that is not
-  pub state : stateSound d ≡ true → stateSound (leftBy limit d call) ≡ true
+  pub state : stateSound d ≡ true → stateSound (leftBy d call) ≡ true
   -- the windows stay
-  pub windows : (q : ℕ) → ringOf (leftBy limit d call) q .window ≡ ringOf d q .window
+  pub windows : (q : ℕ) → ringOf (leftBy d call) q .window ≡ ringOf d q .window
   -- so they fit the same memories, and 101 is met only with another
-  pub fits : (memory : ℕ) → windowsFit (leftBy limit d call) memory ≡ windowsFit d memory
+  pub fits : (memory : ℕ) → windowsFit (leftBy d call) memory ≡ windowsFit d memory
   -- a call from such a state is not refused as 102
-  pub not-102 : stateSound d ≡ true → numberIn limit d call ≡ 102 → ⊥
+  pub not-102 : stateSound d ≡ true → numberIn d call ≡ 102 → ⊥
   -- a call whose memory the windows fit is not refused as 101
-  pub not-101 : windowsFit d (length (call .memory)) ≡ true → numberIn limit d call ≡ 101 → ⊥
+  pub not-101 : windowsFit d (length (call .memory)) ≡ true → numberIn d call ≡ 101 → ⊥
 
 unfoldable pub TurnStaysSound : Type 0
-TurnStaysSound = (limit : ℕ) (d : Device) (call : Call) → StaysSound limit d call
+TurnStaysSound = (d : Device) (call : Call) → StaysSound d call
 
 -- no ring that a call lends is too long or shorter than its cursor
 abbrev pub lentRingsFit : Device → Call → Bool
 lentRingsFit d call = ringsFit d (length (call .ring0)) (length (call .ring1)) (length (call .ring2)) (length (call .ring3))
 
 -- a call is refused for its rings, else for its pipe, else for its pack, and for nothing else
-pub record RefusedForLent (limit : ℕ) (d : Device) (call : Call) : Type 0 where
-  pub rings : lentRingsFit d call ≡ false → numberIn limit d call ≡ 103
-  pub pipe : lentRingsFit d call ≡ true → length (call .pipe) < 1020 → numberIn limit d call ≡ 104
-  pub pack : lentRingsFit d call ≡ true → 1020 ≤ length (call .pipe) → soundPack (call .pack) ≡ false → numberIn limit d call ≡ 105
+pub record RefusedForLent (d : Device) (call : Call) : Type 0 where
+  pub rings : lentRingsFit d call ≡ false → numberIn d call ≡ 103
+  pub pipe : lentRingsFit d call ≡ true → length (call .pipe) < 1020 → numberIn d call ≡ 104
+  pub pack : lentRingsFit d call ≡ true → 1020 ≤ length (call .pipe) → soundPack (call .pack) ≡ false → numberIn d call ≡ 105
   -- else it is served or idle
-  pub heard : lentRingsFit d call ≡ true → 1020 ≤ length (call .pipe) → soundPack (call .pack) ≡ true → numberIn limit d call ≤ 1
+  pub heard : lentRingsFit d call ≡ true → 1020 ≤ length (call .pipe) → soundPack (call .pack) ≡ true → numberIn d call ≤ 1
 
 -- so is every call from a sound state on a memory that the windows fit
 unfoldable pub SoundRefusals : Type 0
 SoundRefusals =
-    (limit : ℕ) (d : Device) (call : Call) → stateSound d ≡ true → windowsFit d (length (call .memory)) ≡ true → RefusedForLent limit d call
+    (d : Device) (call : Call) → stateSound d ≡ true → windowsFit d (length (call .memory)) ≡ true → RefusedForLent d call
 
 -- making a device over a memory of `memory` bytes
 pub record MakesSound (memory : ℕ) (w0 w1 w2 w3 : Window) : Type 0 where
@@ -60,18 +60,18 @@ unfoldable pub FreshMakesSound : Type 0
 FreshMakesSound = (memory : ℕ) (w0 w1 w2 w3 : Window) → MakesSound memory w0 w1 w2 w3
 
 -- a call over a device that was handed back: it is not refused as 102, and on `memory` bytes only for what it lends
-pub record HandedBack (memory limit : ℕ) (d : Device) (call : Call) : Type 0 where
-  pub not-102 : numberIn limit d call ≡ 102 → ⊥
-  pub lent : length (call .memory) ≡ memory → RefusedForLent limit d call
+pub record HandedBack (memory : ℕ) (d : Device) (call : Call) : Type 0 where
+  pub not-102 : numberIn d call ≡ 102 → ⊥
+  pub lent : length (call .memory) ≡ memory → RefusedForLent d call
 
 -- so is each call, one after another, from a sound state whose windows fit so many bytes
 unfoldable pub CallsStaySound : Type 0
 CallsStaySound =
-    (limit memory : ℕ) (d : Device) (calls : List Call) → stateSound d ≡ true → windowsFit d memory ≡ true
-    → EachCall (HandedBack memory limit) limit d calls
+    (memory : ℕ) (d : Device) (calls : List Call) → stateSound d ≡ true → windowsFit d memory ≡ true
+    → EachCall (HandedBack memory) d calls
 
 -- and from a made device, with the memory's length that it was made for
 unfoldable pub FreshStaysSound : Type 0
 FreshStaysSound =
-    (limit memory : ℕ) (w0 w1 w2 w3 : Window) (calls : List Call) → makingNumber (freshOf memory w0 w1 w2 w3 .answer) ≡ 0
-    → EachCall (HandedBack memory limit) limit (freshOf memory w0 w1 w2 w3 .device) calls
+    (memory : ℕ) (w0 w1 w2 w3 : Window) (calls : List Call) → makingNumber (freshOf memory w0 w1 w2 w3 .answer) ≡ 0
+    → EachCall (HandedBack memory) (freshOf memory w0 w1 w2 w3 .device) calls

@@ -14,7 +14,6 @@ use Rattle.instruction.specs.Vectors.{quadOf, broadcast}
 use Rattle.kernel.specs.declared.thread.Thread.{Thread}
 use Rattle.kernel.specs.Thread.{writtenVector}
 use Rattle.kernel.specs.Dispatch.{Dispatched, dispatchOf}
-use Rattle.kernel.specs.Run.{stepLimit}
 use Rattle.kernel.specs.Examples.{freshThread, afterWord, scalar, packOf}
 use Rattle.command.specs.declared.frame.Frame.the-variants.{Held}
 use Rattle.command.specs.Outcome.{outcomeNumber}
@@ -22,7 +21,7 @@ use Rattle.work.specs.Work.{ranOutcome}
 use Rattle.state.specs.declared.device.Device.{Device}
 use Rattle.state.specs.Device.{emptyWindow, freshRing, deviceOf}
 use Rattle.device.specs.Answer.{answerNumber, noValues, valuesOf}
-use Rattle.device.specs.Turn.{Call, callOf, After, turnOf}
+use Rattle.device.specs.Turn.{Call, callOf, TurnEnd, turnOf}
 use Rattle.demands.specs.Calls.{ServesRing}
 
 -- a word's bytes, and a command's 16 bytes
@@ -54,7 +53,7 @@ colored [] n = replicate n 0
 colored (a ∷ places) n = withWord (colored places n) a 0xAABBCCDD
 
 -- a turn that serves ring 0: this outcome, no fence, no words read and no IRQ
-abbrev pub OutcomeOn0 : ℕ → After → Type 0
+abbrev pub OutcomeOn0 : ℕ → TurnEnd → Type 0
 OutcomeOn0 outcome after =
     (answerNumber (after .turned .answer) ≡ 0)
     × (valuesOf (after .turned .answer) ≡ record { ring = 0; outcome = outcome; fence = 0; words = 0; irq = false })
@@ -89,24 +88,24 @@ emitTo s = header 0x22 2 s 0 0 0 0
 -- the first four turns of calls over unchanging rings, from this marker, serve these rings
 abbrev pub FirstFour : ℕ → Call → ℕ → ℕ → ℕ → ℕ → Type 0
 FirstFour marker call a b c d =
-    let t1 = turnOf stepLimit (framed 64 marker) call .turned in
-    let t2 = turnOf stepLimit (t1 .device) call .turned in
-    let t3 = turnOf stepLimit (t2 .device) call .turned in
-    let t4 = turnOf stepLimit (t3 .device) call .turned in
+    let t1 = turnOf (framed 64 marker) call .turned in
+    let t2 = turnOf (t1 .device) call .turned in
+    let t3 = turnOf (t2 .device) call .turned in
+    let t4 = turnOf (t3 .device) call .turned in
     ServesRing a (t1 .answer) × ServesRing b (t2 .answer) × ServesRing c (t3 .answer) × ServesRing d (t4 .answer)
 
 -- a turn that answers idle and reports nothing
-abbrev pub IdleTurn : After → Type 0
+abbrev pub IdleTurn : TurnEnd → Type 0
 IdleTurn after = (answerNumber (after .turned .answer) ≡ 1) × (valuesOf (after .turned .answer) ≡ noValues)
 
 pub record Table : Type 0 where
   -- window 64, stride 16, fill at 4, 2 by 3: words at 4, 8, 20, 24, 36, 40
-  pub p1 : OutcomeOn0 0 (turnOf stepLimit (framed 64 0) (fillAt4 64 2 3))
-      × (turnOf stepLimit (framed 64 0) (fillAt4 64 2 3) .memory ≡ colored (4 ∷ 8 ∷ 20 ∷ 24 ∷ 36 ∷ 40 ∷ []) 64)
+  pub p1 : OutcomeOn0 0 (turnOf (framed 64 0) (fillAt4 64 2 3))
+      × (turnOf (framed 64 0) (fillAt4 64 2 3) .memory ≡ colored (4 ∷ 8 ∷ 20 ∷ 24 ∷ 36 ∷ 40 ∷ []) 64)
   -- window 40: 8 (the end is 44)
-  pub p2 : OutcomeOn0 8 (turnOf stepLimit (framed 40 0) (fillAt4 40 2 3))
+  pub p2 : OutcomeOn0 8 (turnOf (framed 40 0) (fillAt4 40 2 3))
   -- width 5: 7
-  pub p3 : OutcomeOn0 7 (turnOf stepLimit (framed 64 0) (fillAt4 64 5 3))
+  pub p3 : OutcomeOn0 7 (turnOf (framed 64 0) (fillAt4 64 5 3))
   -- FFF00297 (ADDI s5, s0, -1): 4,294,967,295
   pub p4 : scalar 5 (afterWord 0xFFF00297 freshThread) ≡ 4294967295
   -- then 0052830B (ADD s6, s5, s5): 4,294,967,294
@@ -115,18 +114,18 @@ pub record Table : Type 0 where
   pub p6 : (opOf 0x0002930B ≡ Unary Abs) × (scalar 6 (afterWord 0x0002930B (afterWord 0xFFF00297 freshThread)) ≡ 1)
   -- 0600030B (CLZ of s0): 32
   pub p7 : scalar 6 (afterWord 0x0600030B freshThread) ≡ 32
-  -- FE502E0D (SW at -4 from s0): 13, in any dispatch and as a whole turn
-  pub p8 : ((groups threads : ℕ) (window : List ℕ) → 1 ≤ groups → 1 ≤ threads → length window < 2 ^ 32
-      → EndsWith 13 window (dispatchOf stepLimit (packOf 0xFE502E0D) 0 groups threads window))
-      × OutcomeOn0 13 (turnOf stepLimit (framed 64 0) (oneThread 0xFE502E0D))
+  -- FE502E0D (SW at -4 from s0): 13, in any dispatch of at least one step and as a whole turn
+  pub p8 : ((limit groups threads : ℕ) (window : List ℕ) → 1 ≤ limit → 1 ≤ groups → 1 ≤ threads → length window < 2 ^ 32
+      → EndsWith 13 window (dispatchOf limit (packOf 0xFE502E0D) 0 groups threads window))
+      × OutcomeOn0 13 (turnOf (framed 64 0) (oneThread 0xFE502E0D))
   -- 0000000E branches to itself: 14
-  pub p9 : ((groups threads : ℕ) (window : List ℕ) → 1 ≤ groups → 1 ≤ threads
-      → EndsWith 14 window (dispatchOf stepLimit (packOf 0x0000000E) 0 groups threads window))
-      × OutcomeOn0 14 (turnOf stepLimit (framed 64 0) (oneThread 0x0000000E))
+  pub p9 : ((limit groups threads : ℕ) (window : List ℕ) → 1 ≤ groups → 1 ≤ threads
+      → EndsWith 14 window (dispatchOf limit (packOf 0x0000000E) 0 groups threads window))
+      × OutcomeOn0 14 (turnOf (framed 64 0) (oneThread 0x0000000E))
   -- VADD.I8 of 010000FF and 01000001: 02000000; as I16: 02000100 (0020A1AF and 002091AF, v1 and v2 to v3)
   pub p10 : (vector 3 (afterWord 0x0020A1AF (holding 0x010000FF 0x01000001)) ≡ broadcast 0x02000000)
       × (vector 3 (afterWord 0x002091AF (holding 0x010000FF 0x01000001)) ≡ broadcast 0x02000100)
   -- marker 1, all ready: order 1, 2, 3, 0
   pub p11 : FirstFour 1 (lent 64 barrier barrier barrier barrier) 1 2 3 0
   -- two rings, each waiting for the other's next emit: idle at once
-  pub p12 : IdleTurn (turnOf stepLimit (framed 64 0) (lent 64 (waitFor 0 ++ emitTo 1) (waitFor 1 ++ emitTo 0) [] []))
+  pub p12 : IdleTurn (turnOf (framed 64 0) (lent 64 (waitFor 0 ++ emitTo 1) (waitFor 1 ++ emitTo 0) [] []))

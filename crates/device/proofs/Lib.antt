@@ -1,6 +1,7 @@
 pub mod Wholes
 pub mod Verdicts
 pub mod Windows
-pub mod BytesLeft
+pub mod Turns
+pub mod Untaken
 pub mod Shapes
 pub mod Answers

@@ -11,10 +11,6 @@ use Rattle.work.specs.declared.work.Performed.{Performed}
 use Rattle.words.specs.Choice.{either}
 use Rattle.state.specs.declared.device.Device.{Device}
 use Rattle.state.specs.declared.device.Window.{Window}
-use Rattle.state.specs.declared.refusal.Verdict.{Verdict}
-use Rattle.state.specs.declared.refusal.Verdict.the-variants.{Sound, Refused}
-use Rattle.state.specs.declared.ready.Picked.{Picked}
-use Rattle.state.specs.declared.ready.Picked.the-variants.{Ring, Nobody}
 use Rattle.state.specs.declared.refusal.Refusal.the-variants.{Memory}
 use Rattle.device.specs.declared.fresh.Making.the-variants.{Made, Refused as Refuses}
 use Rattle.device.specs.declared.fresh.Fresh.{Fresh}
@@ -22,7 +18,8 @@ use Rattle.state.specs.Slots.{emitted, emittedIn}
 use Rattle.state.specs.Device.{Shaped, SlotsFit, slotOf, emptyWindow, withRing, withSlots, withMarker, freshDevice}
 use Rattle.device.specs.Fresh.{freshOf}
 use Rattle.state.specs.Refusal.{memoryFits}
-use Rattle.device.specs.Turn.{Call, emitTo, deviceAfter, finished, servedOf, pickedOf, judgedOf, unchanged, turnOf, verdictOn}
+use Rattle.device.specs.Turn.{Call, emitTo, deviceAfter, finished, servedOf, unchanged, turnOf}
+use Rattle.device.proofs.Turns.{turn-cases}
 
 after-emit : (b : Bool) (d : Device) (n : ℕ) → Shaped d → Shaped (emitTo b d n)
 unfolding emitTo either withSlots emittedIn
@@ -50,20 +47,11 @@ after-shaped d q c p s =
     let e = after-emit _ _ _ (record { rings = length-set (d .rings) q _ ∙ s .rings; slots = s .slots }) in
     record { rings = e .rings; slots = e .slots }
 
-module _ (limit : ℕ) (d : Device) (call : Call) (s : Shaped d) where
-  after-pick : (k : Picked) → Shaped (pickedOf limit d call k .turned .device)
-  unfolding pickedOf servedOf finished unchanged
-  after-pick (Ring q) = after-shaped d q _ _ s
-  after-pick Nobody = s
-
-  after-verdict : (v : Verdict) → Shaped (judgedOf limit d call v .turned .device)
-  unfolding judgedOf unchanged
-  after-verdict Sound = after-pick _
-  after-verdict (Refused why) = s
-
-  pub turn-shaped : Shaped (turnOf limit d call .turned .device)
-  unfolding turnOf
-  turn-shaped = after-verdict (verdictOn d call)
+-- so a turn leaves a shaped device shaped
+pub turn-shaped : (d : Device) (call : Call) → Shaped d → Shaped (turnOf d call .turned .device)
+unfolding unchanged servedOf finished
+turn-shaped d call s =
+    turn-cases d call (λ end. Shaped (end .turned .device)) (λ why v. s) (λ sound p. s) (λ q sound p. after-shaped d q _ _ s)
 
 pub fresh-shaped : (w0 w1 w2 w3 : Window) → Shaped (freshDevice w0 w1 w2 w3)
 unfolding freshDevice

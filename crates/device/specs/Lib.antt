@@ -1,4 +1,4 @@
 pub mod Fresh
 pub mod Turn
 pub mod Answer
-pub mod Left
+pub mod Untaken

@@ -18,11 +18,12 @@ use Rattle.state.specs.declared.refusal.Verdict.{Verdict}
 use Rattle.state.specs.declared.refusal.Verdict.the-variants.{Sound, Refused}
 use Rattle.state.specs.declared.ready.Picked.{Picked}
 use Rattle.state.specs.declared.ready.Picked.the-variants.{Ring as RingOf, Nobody}
+use Rattle.device.specs.declared.turn.Report.{Report}
 use Rattle.device.specs.declared.turn.Answer.{Answer}
 use Rattle.device.specs.declared.turn.Answer.the-variants.{Refused as RefusedFor, Idle, Served}
 use Rattle.device.specs.declared.turn.Turned.{Turned}
-use Rattle.state.specs.Slots.{emitted, emittedIn}
-use Rattle.state.specs.Device.{ringOf, slotOf, withRing, withSlots, withMarker}
+use Rattle.state.specs.Slots.{isFull, emitted, emittedIn}
+use Rattle.state.specs.Device.{limitOf, ringOf, slotOf, withRing, withSlots, withMarker}
 use Rattle.state.specs.Refusal.{verdictOf}
 use Rattle.state.specs.Ready.{nextRing, bytesOfRing, pickOf}
 
@@ -41,20 +42,28 @@ abbrev pub callOf : List ℕ → List ℕ → List ℕ → List ℕ → List ℕ
 callOf memory ring0 ring1 ring2 ring3 pack pipe =
     record { memory = memory; ring0 = ring0; ring1 = ring1; ring2 = ring2; ring3 = ring3; pack = pack; pipe = pipe }
 
+-- the bytes of ring q that a call lends
+abbrev pub ringIn : Call → ℕ → List ℕ
+ringIn call q = bytesOfRing q (call .ring0) (call .ring1) (call .ring2) (call .ring3)
+
+-- the ring that a call's turn picks
+abbrev pub pickIn : Device → Call → Picked
+pickIn d call = pickOf d (call .ring0) (call .ring1) (call .ring2) (call .ring3)
+
 -- the device after a turn and its answer, and the memory and pipe that it leaves
-pub record After : Type 0 where
+pub record TurnEnd : Type 0 where
   pub turned : Turned
   pub memory : List ℕ
   pub pipe : List ℕ
 
 -- what a function returns, and leaves in the memory and the pipe, is this
-pub record Shows (r : Turned) (m p : List ℕ) (a : After) : Type 0 where
-  pub answer : r ≡ a .turned
-  pub memory : m ≡ a .memory
-  pub pipe : p ≡ a .pipe
+pub record Shows (r : Turned) (m p : List ℕ) (end : TurnEnd) : Type 0 where
+  pub answer : r ≡ end .turned
+  pub memory : m ≡ end .memory
+  pub pipe : p ≡ end .pipe
 
 -- a refused or idle turn changes nothing
-unfoldable pub unchanged : Device → Call → Answer → After
+unfoldable pub unchanged : Device → Call → Answer → TurnEnd
 unchanged d call answer = record { turned = record { device = d; answer = answer }; memory = call .memory; pipe = call .pipe }
 
 -- the reported fence: the slot's new number, or 0
@@ -77,26 +86,26 @@ deviceAfter d q c p =
     (nextRing q)
 
 -- what is reported of a served command
-unfoldable pub reportOf : Device → ℕ → Command → Performed → Answer
-reportOf d q c p = Served (record {
+unfoldable pub reportOf : Device → ℕ → Command → Performed → Report
+reportOf d q c p = record {
   ring = q;
   outcome = p .outcome;
   fence = fenceOf (emits c (p .outcome)) (slotOf d (c .rdst));
   words = wordsRead c (p .outcome);
   irq = interrupts c (p .outcome);
-})
+}
 
 -- the device and the report once ring q's command has had its outcome
 unfoldable pub finished : Device → ℕ → Command → Performed → Turned
-finished d q c p = record { device = deviceAfter d q c p; answer = reportOf d q c p }
+finished d q c p = record { device = deviceAfter d q c p; answer = Served (reportOf d q c p) }
 
 -- ring q, whose bytes are `ring`, is served: its command is taken and performed on its window
-unfoldable pub servedOf : ℕ → Device → ℕ → List ℕ → List ℕ → List ℕ → List ℕ → After
-servedOf limit d q ring memory pack pipe =
+unfoldable pub servedOf : Device → ℕ → List ℕ → List ℕ → List ℕ → List ℕ → TurnEnd
+servedOf d q ring memory pack pipe =
     let r = ringOf d q in
     let c = commandAt ring (r .cursor) in
     let window = windowOf (r .window .start) (r .window .length) memory in
-    let p = performedOf c (slotOf d (c .rdst)) ring window (r .frame) pack pipe limit in
+    let p = performedOf c (isFull (slotOf d (c .rdst))) ring window (r .frame) pack pipe (limitOf d) in
     record {
       turned = finished d q c (p .performed);
       memory = putBack (r .window .start) (p .window) memory;
@@ -104,15 +113,14 @@ servedOf limit d q ring memory pack pipe =
     }
 
 -- the first ready ring is served; if none is, the answer is idle
-unfoldable pub pickedOf : ℕ → Device → Call → Picked → After
-pickedOf limit d call (RingOf q) =
-    servedOf limit d q (bytesOfRing q (call .ring0) (call .ring1) (call .ring2) (call .ring3)) (call .memory) (call .pack) (call .pipe)
-pickedOf limit d call Nobody = unchanged d call Idle
+unfoldable pub pickedOf : Device → Call → Picked → TurnEnd
+pickedOf d call (RingOf q) = servedOf d q (ringIn call q) (call .memory) (call .pack) (call .pipe)
+pickedOf d call Nobody = unchanged d call Idle
 
 -- a call that is not refused takes its turn
-unfoldable pub judgedOf : ℕ → Device → Call → Verdict → After
-judgedOf limit d call Sound = pickedOf limit d call (pickOf d (call .ring0) (call .ring1) (call .ring2) (call .ring3))
-judgedOf limit d call (Refused why) = unchanged d call (RefusedFor why)
+unfoldable pub judgedOf : Device → Call → Verdict → TurnEnd
+judgedOf d call Sound = pickedOf d call (pickIn d call)
+judgedOf d call (Refused why) = unchanged d call (RefusedFor why)
 
 -- the verdict on a call
 unfoldable pub verdictOn : Device → Call → Verdict
@@ -121,8 +129,8 @@ verdictOn d call =
     (length (call .pipe)) (call .pack)
 
 -- a turn
-unfoldable pub turnOf : ℕ → Device → Call → After
-turnOf limit d call = judgedOf limit d call (verdictOn d call)
+unfoldable pub turnOf : Device → Call → TurnEnd
+turnOf d call = judgedOf d call (verdictOn d call)
 
 -- what the device's checks give a ring that is served
 pub record Servable (d : Device) (q : ℕ) (memory : ℕ) (ring : List ℕ) (pipe : ℕ) : Type 0 where

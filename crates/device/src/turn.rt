@@ -2,7 +2,6 @@
 ghost use mathlib.Core.Path.{_≡_};
 ghost use Prim.Native.Nat.{_+_, _^_, _<_};
 ghost use lib.ListN.{length};
-ghost use Rattle.kernel.specs.Run.{stepLimit};
 ghost use Rattle.state.specs.Device.{ringOf};
 ghost use Rattle.device.specs.Turn.{fenceOf, emitTo, ringAfter, deviceAfter, reportOf, finished, Shows, Servable, servedOf, callOf, turnOf};
 ghost use Rattle.state.specs.Ready.{bytesOfRing};
@@ -13,7 +12,6 @@ use command::outcome::Outcome;
 use command::report::emits_fence;
 use command::report::raises_irq;
 use command::report::words_read;
-use kernel::run::STEP_LIMIT;
 use state::device::Device;
 use state::device::Ring;
 use state::ready::Picked;
@@ -25,6 +23,7 @@ use state::refusal::Verdict;
 use state::refusal::judge;
 use state::slots::emit;
 use state::slots::emitted;
+use state::slots::is_full;
 use work::perform::perform;
 use work::work::Performed;
 
@@ -91,19 +90,19 @@ fn device_after(d: Device, q: u32, command: Command, done: Performed) -> Device
     next.with_marker(marker)
 }
 
-fn report_of(d: Device, q: u32, command: Command, done: Performed) -> Answer
+fn report_of(d: Device, q: u32, command: Command, done: Performed) -> Report
     ensures { λ r. ⌜ r ≡ reportOf d q command done ⌝ }
 {
     let outcome = done.outcome;
     let emitting = emits_fence(command, outcome);
     let slot = d.slot(command.rdst);
-    Answer::Served(Report {
+    Report {
         ring: q,
         outcome,
         fence: fence_of(emitting, slot),
         words: words_read(command, outcome),
         irq: raises_irq(command, outcome),
-    })
+    }
 }
 
 fn finish(d: Device, q: u32, command: Command, done: Performed) -> Turned
@@ -112,31 +111,32 @@ fn finish(d: Device, q: u32, command: Command, done: Performed) -> Turned
 {
     Turned {
         device: device_after(d, q, command, done),
-        answer: report_of(d, q, command, done),
+        answer: Answer::Served(report_of(d, q, command, done)),
     }
 }
 
 // Ring q, whose bytes are `ring`, is served: its window is lent to its command.
 fn serve(d: Device, q: u32, mem: &mut [u8], ring: &[u8], pack: &[u8], pipe: &mut [u8]) -> Turned
     requires { ⌜ Servable d q (length (now mem)) (now ring) (length (now pipe)) ⌝ }
-    ensures { λ r. ⌜ Shows r (now (mem .exit)) (now (pipe .exit)) (servedOf stepLimit d q (now (ring .entry)) (now (mem .entry)) (now (pack .entry)) (now (pipe .entry))) ⌝ }
+    ensures { λ r. ⌜ Shows r (now (mem .exit)) (now (pipe .exit)) (servedOf d q (now (ring .entry)) (now (mem .entry)) (now (pack .entry)) (now (pipe .entry))) ⌝ }
 {
     let at = d.ring(q);
     let command = command_at(ring, at.cursor as usize);
-    let slot = d.slot(command.rdst);
+    let full = is_full(d.slot(command.rdst));
+    let limit = d.limit();
     let window = at.window;
     let frame = at.frame;
     let start = window.start as usize;
     let end = start + window.length as usize;
     let done = perform(
         command,
-        slot,
+        full,
         ring,
         &mut mem[start..end],
         frame,
         pack,
         pipe,
-        STEP_LIMIT,
+        limit,
     );
     finish(d, q, command, done)
 }
@@ -154,7 +154,7 @@ fn serve_picked<'a>(
     pipe: &mut [u8],
 ) -> Turned
     requires { ⌜ Servable d q (length (now mem)) (bytesOfRing q (now r0) (now r1) (now r2) (now r3)) (length (now pipe)) ⌝ }
-    ensures { λ r. ⌜ Shows r (now (mem .exit)) (now (pipe .exit)) (servedOf stepLimit d q (bytesOfRing q (now (r0 .entry)) (now (r1 .entry)) (now (r2 .entry)) (now (r3 .entry))) (now (mem .entry)) (now (pack .entry)) (now (pipe .entry))) ⌝ }
+    ensures { λ r. ⌜ Shows r (now (mem .exit)) (now (pipe .exit)) (servedOf d q (bytesOfRing q (now (r0 .entry)) (now (r1 .entry)) (now (r2 .entry)) (now (r3 .entry))) (now (mem .entry)) (now (pack .entry)) (now (pipe .entry))) ⌝ }
 {
     let ring = bytes_of_ring(q, r0, r1, r2, r3);
     serve(d, q, mem, ring, pack, pipe)
@@ -171,7 +171,7 @@ pub fn turn<'a>(
     pack: &[u8],
     pipe: &mut [u8],
 ) -> Turned
-    ensures { λ r. ⌜ Shows r (now (mem .exit)) (now (pipe .exit)) (turnOf stepLimit d (callOf (now (mem .entry)) (now (r0 .entry)) (now (r1 .entry)) (now (r2 .entry)) (now (r3 .entry)) (now (pack .entry)) (now (pipe .entry)))) ⌝ }
+    ensures { λ r. ⌜ Shows r (now (mem .exit)) (now (pipe .exit)) (turnOf d (callOf (now (mem .entry)) (now (r0 .entry)) (now (r1 .entry)) (now (r2 .entry)) (now (r3 .entry)) (now (pack .entry)) (now (pipe .entry)))) ⌝ }
 {
     let verdict = judge(
         d,

@@ -8,10 +8,6 @@ use Rattle.kernel.specs.declared.step.Progress.{Progress}
 use Rattle.kernel.specs.declared.step.Progress.the-variants.{Running, Ended, Stopped}
 use Rattle.kernel.specs.Step.{State, stepOf}
 
--- the steps that a thread may take: 14 if it already took 4,096
-abbrev pub stepLimit : ℕ
-stepLimit = 4096
-
 -- the first of two while the thread is running, else the second
 unfoldable pub ifRunning : {A : Type 0} → Progress → A → A → A
 ifRunning Running x y = x

@@ -8,9 +8,6 @@ use crate::step::step;
 use crate::thread::Thread;
 use pack::kernels::Kernel;
 
-// The steps that a thread may take.
-pub const STEP_LIMIT: u32 = 4096;
-
 pub fn run(thread: Thread, pack: &[u8], kernel: Kernel, window: &mut [u8], limit: u32) -> Stepped
     requires { ⌜ kernel .start < 2 ^ 62 ⌝ }
     ensures { λ r. ⌜ Shows r (now (window .exit)) (runOf limit (now (pack .entry)) kernel thread (now (window .entry))) ⌝ }

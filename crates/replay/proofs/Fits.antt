@@ -17,8 +17,8 @@ use Rattle.memory.specs.Window.{windowOf}
 use Rattle.words.specs.Choice.{either}
 use Rattle.state.specs.declared.device.Device.{Device}
 use Rattle.state.specs.Ready.{bytesOfRing}
-use Rattle.device.specs.Turn.{Call}
-use Rattle.device.specs.Left.{leftOf, sumOf, bytesLeft}
+use Rattle.device.specs.Turn.{Call, ringIn}
+use Rattle.device.specs.Untaken.{untakenOf, sumOf, untakenIn}
 use Rattle.replay.specs.Transcript.{firstCall}
 
 pub as-short : {a b : List ℕ} → a ≡ b → length b ≤ 16384 → length a ≤ 16384
@@ -32,8 +32,8 @@ memory-fits input job e =
     rw (k .1) (simp (length-take) (omega (arith, few)))
 
 -- no more bytes are left than the rings have
-left-most : (d : Device) (call : Call) → bytesLeft d call ≤ length (call .ring0) + length (call .ring1) + length (call .ring2) + length (call .ring3)
-unfolding bytesLeft sumOf leftOf bytesOfRing either
+left-most : (d : Device) (call : Call) → untakenIn (ringIn call) d ≤ length (call .ring0) + length (call .ring1) + length (call .ring2) + length (call .ring3)
+unfolding untakenIn sumOf untakenOf bytesOfRing either
 left-most d call = omega arith
 
 -- a part has no more bytes than its bounds say
@@ -42,7 +42,7 @@ unfolding bytesOf windowOf
 part-most input part = simp length-take (omega arith)
 
 -- the rings stand one after the other in the input
-pub few-left : (d : Device) (input : List ℕ) (job : Job) → partsOf input ≡ Accepted job → bytesLeft d (firstCall input job) ≤ 61440
+pub few-left : (d : Device) (input : List ℕ) (job : Job) → partsOf input ≡ Accepted job → untakenIn (ringIn (firstCall input job)) d ≤ 61440
 unfolding firstCall jobOf sectionsOf ring0Of ring1Of ring2Of ring3Of sectionAt
 few-left d input job e =
     let k = checked input job e in

@@ -7,7 +7,6 @@ use native.Mathlib.Omega.{arith}
 use lib.ListN.{length, take, drop}
 use Rattle.spelling.specs.Put.{Spelled}
 use Rattle.spelling.specs.Line.{idleLine, refusedLine}
-use Rattle.kernel.specs.Run.{stepLimit}
 use Rattle.state.specs.declared.device.Device.{Device}
 use Rattle.state.specs.declared.refusal.Refusal.{Refusal}
 use Rattle.device.specs.declared.turn.Answer.{Answer}
@@ -16,9 +15,9 @@ use Rattle.device.specs.declared.turn.Report.{Report}
 use Rattle.device.specs.declared.turn.Turned.{Turned}
 use Rattle.state.specs.Device.{Shaped}
 use Rattle.state.specs.Refusal.{refusalNumber}
-use Rattle.device.specs.Turn.{Call, callOf, Shows, turnOf}
-use Rattle.device.specs.Left.{bytesLeft}
-use Rattle.device.proofs.BytesLeft.{served-takes}
+use Rattle.device.specs.Turn.{Call, ringIn, callOf, Shows, turnOf}
+use Rattle.device.specs.Untaken.{untakenIn}
+use Rattle.device.proofs.Untaken.{served-takes}
 use Rattle.device.proofs.Shapes.{turn-shaped}
 use Rattle.replay.specs.Text.{Appended}
 use Rattle.replay.specs.Transcript.{servedLine, allLines}
@@ -32,12 +31,12 @@ pub record In-play (d₀ : Device) (call₀ : Call) (memory₀ : ℕ) (text₀ :
   pub text : length lent ≡ length text₀
   pub rest : drop n lent ≡ drop n text₀
   pub shaped : Shaped d
-  pub left : 16 * turns + bytesLeft d call ≤ 61440
+  pub left : 16 * turns + untakenIn (ringIn call) d ≤ 61440
   pub written : n ≤ 64 * turns
   pub lines : allLines 0 d₀ call₀ ≡ take n lent ++ allLines turns d call
 
 -- before the first turn
-pub starts : (d : Device) (call : Call) (lent : List ℕ) → length (call .pipe) ≡ 1020 → Shaped d → bytesLeft d call ≤ 61440
+pub starts : (d : Device) (call : Call) (lent : List ℕ) → length (call .pipe) ≡ 1020 → Shaped d → untakenIn (ringIn call) d ≤ 61440
     → In-play d call (length (call .memory)) lent d call lent 0 0
 starts d call lent pipe shaped few =
     record {
@@ -63,8 +62,8 @@ module _ {d₀ d : Device} {call₀ call : Call} {memory₀ turns n : ℕ} {text
   ended last a short same room =
       whole-spelled (last-appended (rw last at (p .lines)) a) (next-rest text₀ a (p .rest)) (omega (arith, line-fits room))
 
-  module _ {r : Turned} {memory pipe : List ℕ} (shows : Shows r memory pipe (turnOf stepLimit d call)) where
-    same-answer : {a : Answer} → r .answer ≡ a → turnOf stepLimit d call .turned .answer ≡ a
+  module _ {r : Turned} {memory pipe : List ℕ} (shows : Shows r memory pipe (turnOf d call)) where
+    same-answer : {a : Answer} → r .answer ≡ a → turnOf d call .turned .answer ≡ a
     same-answer e = sym (ap (λ x. x .answer) (shows .answer)) ∙ e
 
     pub ends-idle : r .answer ≡ Idle → {lent : List ℕ} {k : ℕ} → Appended (idleLine turns) n text lent k → k ≤ n + 64
@@ -77,20 +76,20 @@ module _ {d₀ d : Device} {call₀ call : Call} {memory₀ turns n : ℕ} {text
 
     module _ (report : Report) (e : r .answer ≡ Served report) where
       -- a served turn leaves at least 16 bytes fewer
-      pub falls : bytesLeft (r .device) call + 16 ≤ bytesLeft d call
-      falls = rw (shows .answer) (served-takes stepLimit d call (p .shaped) report (same-answer e))
+      pub falls : untakenIn (ringIn call) (r .device) + 16 ≤ untakenIn (ringIn call) d
+      falls = rw (shows .answer) (served-takes d call (p .shaped) report (same-answer e))
 
       pub goes-on : {lent : List ℕ} {k : ℕ} → Appended (servedLine (turns + 1) report) n text lent k → k ≤ n + 64 → length lent ≡ length text
           → length memory ≡ length (call .memory) → length pipe ≡ length (call .pipe)
           → In-play d₀ call₀ memory₀ text₀ (r .device) (callOf memory (call .ring0) (call .ring1) (call .ring2) (call .ring3) (call .pack) pipe) lent (turns + 1) k
-      unfolding bytesLeft
+      unfolding untakenIn
       goes-on a short same same-memory same-pipe =
           record {
             memory = same-memory ∙ p .memory;
             pipe = same-pipe ∙ p .pipe;
             text = same ∙ p .text;
             rest = next-rest text₀ a (p .rest);
-            shaped = rw (shows .answer) (turn-shaped stepLimit d call (p .shaped));
+            shaped = rw (shows .answer) (turn-shaped d call (p .shaped));
             left = omega (arith, falls, p .left);
             written = omega (arith, p .written);
             lines = next-appended _ (p .lines ∙ ap (λ (l : List ℕ). take n text ++ l) next) a;

@@ -3,7 +3,6 @@ use Prim.Native.Nat.{ℕ, zero, suc, _+_, _<_}
 use mathlib.Core.Path.{_≡_}
 use mathlib.Core.List.{List, [], _++_}
 use lib.ListN.{length, replicate}
-use Rattle.kernel.specs.Run.{stepLimit}
 use Rattle.state.specs.declared.device.Device.{Device}
 use Rattle.state.specs.declared.device.Window.{Window}
 use Rattle.device.specs.declared.fresh.Fresh.{Fresh}
@@ -15,8 +14,8 @@ use Rattle.device.specs.declared.turn.Report.{Report}
 use Rattle.state.specs.Device.{Shaped}
 use Rattle.device.specs.Answer.{answerNumber, valuesOf, makingNumber}
 use Rattle.device.specs.Fresh.{freshOf}
-use Rattle.device.specs.Turn.{Call, callOf, After, turnOf}
-use Rattle.device.specs.Left.{bytesLeft}
+use Rattle.device.specs.Turn.{Call, ringIn, callOf, TurnEnd, turnOf}
+use Rattle.device.specs.Untaken.{untakenIn}
 use Rattle.job.specs.declared.parse.Parsed.{Parsed}
 use Rattle.job.specs.declared.parse.Parsed.the-variants.{Accepted, Refused}
 use Rattle.job.specs.declared.parts.Job.{Job}
@@ -38,7 +37,7 @@ linesOf turns Idle rest = idleLine turns
 linesOf turns (RefusedTurn why) rest = refusedLine (answerNumber (RefusedTurn why))
 
 -- the next call: the same rings and pack, and the memory and pipe that the turn leaves
-abbrev pub nextCall : Call → After → Call
+abbrev pub nextCall : Call → TurnEnd → Call
 nextCall call after =
     callOf (after .memory) (call .ring0) (call .ring1) (call .ring2) (call .ring3) (call .pack) (after .pipe)
 
@@ -46,16 +45,16 @@ nextCall call after =
 unfoldable pub linesFrom : ℕ → ℕ → Device → Call → List ℕ
 linesFrom zero turns d call = []
 linesFrom (suc most) turns d call =
-    let after = turnOf stepLimit d call in
+    let after = turnOf d call in
     linesOf turns (after .turned .answer) (linesFrom most (turns + 1) (after .turned .device) (nextCall call after))
 
 -- the lines of all turns: each served turn takes bytes of a ring, so there are no more turns than one more than the bytes left
 unfoldable pub allLines : ℕ → Device → Call → List ℕ
-allLines turns d call = linesFrom (suc (bytesLeft d call)) turns d call
+allLines turns d call = linesFrom (suc (untakenIn (ringIn call) d)) turns d call
 
 -- and that is no cap: any larger number gives the same lines
 abbrev pub EnoughTurns : Type 0
-EnoughTurns = (most turns : ℕ) (d : Device) (call : Call) → Shaped d → bytesLeft d call < most → linesFrom most turns d call ≡ allLines turns d call
+EnoughTurns = (most turns : ℕ) (d : Device) (call : Call) → Shaped d → untakenIn (ringIn call) d < most → linesFrom most turns d call ≡ allLines turns d call
 
 -- 1,020 zeros
 unfoldable pub emptyPipe : List ℕ

@@ -3,8 +3,8 @@ ghost use mathlib.Core.Path.{_≡_};
 ghost use Prim.Native.Nat.{_≤_};
 ghost use lib.ListN.{length};
 ghost use Rattle.state.specs.Device.{Shaped};
-ghost use Rattle.device.specs.Turn.{callOf};
-ghost use Rattle.device.specs.Left.{bytesLeft};
+ghost use Rattle.device.specs.Turn.{ringIn, callOf};
+ghost use Rattle.device.specs.Untaken.{untakenIn};
 ghost use Rattle.job.specs.Parse.{partsOf};
 ghost use Rattle.spelling.specs.Put.{Spelled};
 ghost use Rattle.replay.specs.Transcript.{allLines, asWindow, emptyPipe, firstCall, jobText, transcriptOf};
@@ -36,7 +36,7 @@ fn play_turns<'a>(
     pack: &[u8],
     text: &mut [u8],
 ) -> usize
-    requires { ⌜ Shaped device × (bytesLeft device (callOf (now memory) (now r0) (now r1) (now r2) (now r3) (now pack) emptyPipe) ≤ 61440) × (262144 ≤ length (now text)) ⌝ }
+    requires { ⌜ Shaped device × (untakenIn (ringIn (callOf (now memory) (now r0) (now r1) (now r2) (now r3) (now pack) emptyPipe)) device ≤ 61440) × (262144 ≤ length (now text)) ⌝ }
     ensures { λ r. ⌜ Spelled (allLines 0 device (callOf (now (memory .entry)) (now (r0 .entry)) (now (r1 .entry)) (now (r2 .entry)) (now (r3 .entry)) (now (pack .entry)) emptyPipe)) (now (text .entry)) (now (text .exit)) r ⌝ }
 {
     let mut pipe = [0u8; 1020];

@@ -29,6 +29,10 @@ pub record Shaped (d : Device) : Type 0 where
 unfoldable pub freshDevice : Window → Window → Window → Window → Device
 freshDevice w0 w1 w2 w3 = deviceOf (freshRing w0 ∷ freshRing w1 ∷ freshRing w2 ∷ freshRing w3 ∷ []) (replicate 64 0) 0
 
+-- the steps that a thread of a kernel may take: 14 if it already took 4,096
+unfoldable pub limitOf : Device → ℕ
+limitOf d = 4096
+
 -- ring q
 unfoldable pub ringOf : Device → ℕ → Ring
 ringOf d q = getD (d .rings) q (freshRing emptyWindow)

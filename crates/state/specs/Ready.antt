@@ -2,7 +2,7 @@
 use Prim.Native.Nat.{ℕ, zero, suc, _+_, _≤_, _<_}
 use mathlib.Core.Bool.{Bool, not, _&&_, _||_}
 use mathlib.Core.List.{List}
-use lib.Dec.{leb, ltb, eqb}
+use lib.Dec.{ltb, eqb}
 use lib.ListN.{getD}
 use Rattle.command.specs.declared.header.Command.{Command}
 use Rattle.words.specs.Choice.{either}
@@ -15,10 +15,7 @@ use Rattle.state.specs.declared.device.Ring.{Ring as RingState}
 use Rattle.state.specs.declared.ready.Picked.{Picked}
 use Rattle.state.specs.declared.ready.Picked.the-variants.{Ring, Nobody}
 use Rattle.state.specs.Device.{ringOf}
-
--- a wait is met if the slot's number is at least the target
-abbrev pub isMet : ℕ → ℕ → Bool
-isMet slot target = leb target slot
+use Rattle.state.specs.Slots.{isMet}
 
 -- a whole command is ready if it has a header fault, or no wait bit, or its slot's number meets the target
 unfoldable pub readyWith : Command → ℕ → Bool

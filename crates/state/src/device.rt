@@ -1,8 +1,11 @@
 // The device's state.
 ghost use mathlib.Core.Path.{_≡_};
 ghost use Prim.Native.Nat.{_<_};
-ghost use Rattle.state.specs.Device.{deviceOf, ByType, freshRing, freshDevice, ringOf, slotOf, withRing, withSlots, withMarker};
+ghost use Rattle.state.specs.Device.{limitOf, deviceOf, ByType, freshRing, freshDevice, ringOf, slotOf, withRing, withSlots, withMarker};
 use command::frame::Frame;
+
+// The steps that a thread may take.
+const STEP_LIMIT: u32 = 4096;
 
 // A ring's part of the memory.
 pub struct Window {
@@ -61,6 +64,13 @@ impl Device {
             fresh_ring(w3),
         ];
         Device::of(rings, [0; 64], 0)
+    }
+
+    // The steps that a thread of a kernel may take.
+    pub fn limit(self) -> u32
+        ensures { λ r. ⌜ r ≡ limitOf self ⌝ }
+    {
+        STEP_LIMIT
     }
 
     pub fn ring(self, q: u32) -> Ring

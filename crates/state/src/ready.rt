@@ -2,9 +2,10 @@
 ghost use mathlib.Core.Path.{_≡_};
 ghost use Prim.Native.Nat.{_≤_, _<_};
 ghost use lib.ListN.{getD};
-ghost use Rattle.state.specs.Ready.{isMet, readyWith, readyWhere, nextRing, bytesOfRing, pickOf, Steady};
+ghost use Rattle.state.specs.Ready.{readyWith, readyWhere, nextRing, bytesOfRing, pickOf, Steady};
 use crate::device::Device;
 use crate::device::Ring;
+use crate::slots::is_met;
 use command::faults::header_fault;
 use command::flags;
 use command::header::Command;
@@ -17,13 +18,6 @@ use words::choice::one_of;
 pub enum Picked {
     Ring(u32),
     Nobody,
-}
-
-// A wait is met if the slot's number is at least the target.
-fn is_met(slot: u32, target: u32) -> bool
-    ensures { λ r. ⌜ r ≡ isMet slot target ⌝ }
-{
-    target <= slot
 }
 
 fn ready_with(command: Command, slot: u32) -> bool
@@ -76,9 +70,9 @@ pub fn pick<'a>(d: Device, r0: &'a [u8], r1: &'a [u8], r2: &'a [u8], r3: &'a [u8
     ensures { λ r. ⌜ r ≡ pickOf d (now (r0 .entry)) (now (r1 .entry)) (now (r2 .entry)) (now (r3 .entry)) ⌝ }
 {
     let mut q = d.marker;
-    let mut left: u32 = 4;
+    let mut untried: u32 = 4;
     loop {
-        if left == 0 {
+        if untried == 0 {
             break Picked::Nobody;
         }
         let at = q as usize;
@@ -87,6 +81,6 @@ pub fn pick<'a>(d: Device, r0: &'a [u8], r1: &'a [u8], r2: &'a [u8], r3: &'a [u8
             break Picked::Ring(q);
         }
         q = next_ring(q);
-        left -= 1;
+        untried -= 1;
     }
 }

@@ -32,6 +32,11 @@ pub neither-right : (a b : Bool) → (a || b) ≡ false → b ≡ false
 neither-right true b e = cc
 neither-right false b e = e
 
+-- a test that does not hold
+pub not-held : (b : Bool) → (b ≡ true → ⊥) → b ≡ false
+not-held true f = absurd (f refl)
+not-held false f = refl
+
 -- tests that do not differ
 pub same-tests : (a b : Bool) → differ a b ≡ false → a ≡ b
 same-tests true true e = refl

@@ -47,15 +47,15 @@ not-outside c length frame pack fine =
     let framed = either-done (unframed c frame) NoFrame _ refl aligned .1 in
     either-done (outside c length frame) OutsideTheWindow _ refl framed .0
 
-module _ (c : Command) (slot length : ℕ) (frame : Frame) (pack : List ℕ) (fine : isDone (faultOf c slot length frame pack) ≡ true) where
+module _ (c : Command) (full : Bool) (length : ℕ) (frame : Frame) (pack : List ℕ) (fine : isDone (faultOf c full length frame pack) ≡ true) where
   pub header-done : isDone (headerFault c) ≡ true
   unfolding faultOf
   header-done = or-else-done (headerFault c) _ fine .0
 
-  pub slot-done : isDone (slotFault c slot) ≡ true
+  pub slot-done : isDone (slotFault c full) ≡ true
   unfolding faultOf
-  slot-done = or-else-done (slotFault c slot) _ (or-else-done (headerFault c) _ fine .1) .0
+  slot-done = or-else-done (slotFault c full) _ (or-else-done (headerFault c) _ fine .1) .0
 
   pub check-done : isDone (checkOf c length frame pack) ≡ true
   unfolding faultOf
-  check-done = or-else-done (slotFault c slot) _ (or-else-done (headerFault c) _ fine .1) .1
+  check-done = or-else-done (slotFault c full) _ (or-else-done (headerFault c) _ fine .1) .1

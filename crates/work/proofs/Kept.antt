@@ -1,7 +1,7 @@
 -- What every command keeps: the lengths of the window and the pipe, that their numbers are bytes, and that a frame passes its test.
 -- Assumes nothing.
 use mathlib.Core.Path.{_≡_, refl}
-use mathlib.Core.Bool.{true}
+use mathlib.Core.Bool.{Bool, true}
 use mathlib.Core.List.{List}
 use Prim.Native.Nat.{ℕ}
 use lib.ListN.{length}
@@ -30,9 +30,9 @@ pub set-fb-check : (c : Command) (length : ℕ) (frame : Frame) (pack : List ℕ
 unfolding checkOf misaligned unframed outside unfitFrame unfitDispatch isRectangle rowOf frameFault either
 set-fb-check c length frame pack e = rw e
 
-module _ (c : Command) (slot : ℕ) (ring window : List ℕ) (frame : Frame) (pack pipe : List ℕ) (limit : ℕ) where
+module _ (c : Command) (full : Bool) (ring window : List ℕ) (frame : Frame) (pack pipe : List ℕ) (limit : ℕ) where
   abbrev pub left : Left
-  left = performedOf c slot ring window frame pack pipe limit
+  left = performedOf c full ring window frame pack pipe limit
 
   -- as long as they were
   abbrev pub Long : Left → Type 0
@@ -49,7 +49,7 @@ module _ (c : Command) (slot : ℕ) (ring window : List ℕ) (frame : Frame) (pa
   pub performed-lengths : Long left
   unfolding leaves afterDispatch dispatchedBy
   performed-lengths =
-      performed-has c slot ring window frame pack pipe limit Long
+      performed-has c full ring window frame pack pipe limit Long
       (λ fine.
       work-has c ring window frame pack pipe limit Long
       (λ e. (transferred-length window _ _ _ _, refl))
@@ -65,7 +65,7 @@ module _ (c : Command) (slot : ℕ) (ring window : List ℕ) (frame : Frame) (pa
   pub performed-bytes : Bytes ring → Bytes window → Bytes pipe → InBytes left
   unfolding leaves afterDispatch dispatchedBy
   performed-bytes r w p =
-      performed-has c slot ring window frame pack pipe limit InBytes
+      performed-has c full ring window frame pack pipe limit InBytes
       (λ fine.
       work-has c ring window frame pack pipe limit InBytes
       (λ e. (transferred-bytes window w _ _ _ _ r, p))
@@ -81,7 +81,7 @@ module _ (c : Command) (slot : ℕ) (ring window : List ℕ) (frame : Frame) (pa
   pub performed-frame : isDone (heldFault frame (length window)) ≡ true → Held left
   unfolding leaves afterDispatch heldBy heldFault
   performed-frame held =
-      performed-has c slot ring window frame pack pipe limit Held
+      performed-has c full ring window frame pack pipe limit Held
       (λ fine.
       work-has c ring window frame pack pipe limit Held
       (λ e. held)
@@ -90,6 +90,6 @@ module _ (c : Command) (slot : ℕ) (ring window : List ℕ) (frame : Frame) (pa
       (λ e. held)
       (λ e. held)
       (λ e. held)
-      (λ e. rw (set-fb-check c (length window) frame pack e) at (check-done c slot (length window) frame pack fine))
+      (λ e. rw (set-fb-check c (length window) frame pack e) at (check-done c full (length window) frame pack fine))
       held)
       (λ faulty. held)

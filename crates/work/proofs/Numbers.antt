@@ -1,5 +1,6 @@
 -- Which outcomes the faults and the work give.
 -- Assumes nothing.
+use mathlib.Core.Bool.{Bool}
 use mathlib.Core.Path.{_≡_, refl}
 use mathlib.Core.List.{List}
 use mathlib.Core.Logic.{_⊎_, inl, inr}
@@ -30,9 +31,9 @@ header-range c =
     (λ e. either-has (DoneOr 1 4) _ (λ e. inr (lit≤ tt, lit≤ tt))
     (λ e. either-has (DoneOr 1 4) _ (λ e. inr (lit≤ tt, lit≤ tt)) (λ e. inl refl))))
 
-pub slot-range : (c : Command) (slot : ℕ) → DoneOr 5 5 (slotFault c slot)
+pub slot-range : (c : Command) (full : Bool) → DoneOr 5 5 (slotFault c full)
 unfolding slotFault outcomeNumber
-slot-range c slot = either-has (DoneOr 5 5) _ (λ e. inr (lit≤ tt, lit≤ tt)) (λ e. inl refl)
+slot-range c full = either-has (DoneOr 5 5) _ (λ e. inr (lit≤ tt, lit≤ tt)) (λ e. inl refl)
 
 pub check-range : (c : Command) (length : ℕ) (frame : Frame) (pack : List ℕ) → DoneOr 6 10 (checkOf c length frame pack)
 unfolding checkOf outcomeNumber

@@ -1,4 +1,4 @@
--- What a command does depends on its own bytes of the ring alone, and on its slot only as far as it is full.
+-- What a command does depends on its own bytes of the ring alone.
 -- Assumes nothing.
 use mathlib.Core.Path.{_≡_, refl, ap, sym, _∙_}
 use mathlib.Core.Bool.{Bool, true, false}
@@ -19,19 +19,11 @@ use Rattle.command.specs.Flags.{payloadBit}
 use Rattle.command.specs.Table.{rowOf}
 use Rattle.command.specs.Header.{payloadSize, commandAt}
 use Rattle.command.specs.Faults.{headerFault}
-use Rattle.work.specs.Checks.{slotFault}
 use Rattle.work.specs.Work.{workOf}
 use Rattle.work.specs.Perform.{faultOf, performedOf}
 use Rattle.command.proofs.Agree.{Agree}
 use Rattle.work.proofs.Faultless.{payload-as-in-table, header-done}
 use Rattle.work.proofs.Performs.{performed-work, performed-fault}
-
--- slots that are both full or both not
-pub slot-alone : (c : Command) (slot₁ slot₂ : ℕ) (ring window : List ℕ) (frame : Frame) (pack pipe : List ℕ) (limit : ℕ)
-    → slotFault c slot₁ ≡ slotFault c slot₂
-    → performedOf c slot₁ ring window frame pack pipe limit ≡ performedOf c slot₂ ring window frame pack pipe limit
-unfolding performedOf faultOf
-slot-alone c slot₁ slot₂ ring window frame pack pipe limit same = rw same
 
 module _ (r₁ r₂ : List ℕ) where
   transferred-agree : (start at n : ℕ) (m : List ℕ) → Agree r₁ r₂ start (start + n) → transferred r₁ start at n m ≡ transferred r₂ start at n m
@@ -50,7 +42,7 @@ module _ (r₁ r₂ : List ℕ) where
       go false e = rw e
 
   -- two rings that agree on a command's bytes have it do the same
-  module _ (cursor slot : ℕ) (window : List ℕ) (frame : Frame) (pack pipe : List ℕ) (limit : ℕ) (same : Agree r₁ r₂ cursor (cursor + commandAt r₁ cursor .size)) where
+  module _ (cursor : ℕ) (full : Bool) (window : List ℕ) (frame : Frame) (pack pipe : List ℕ) (limit : ℕ) (same : Agree r₁ r₂ cursor (cursor + commandAt r₁ cursor .size)) where
     abbrev c : Command
     c = commandAt r₁ cursor
 
@@ -60,15 +52,15 @@ module _ (r₁ r₂ : List ℕ) where
         let set : payloadBit (c .flags) ≡ true = payload-as-in-table c fine ∙ rw writes in
         same i (omega arith) (rw set (omega arith))
 
-    pub performed-agree : performedOf c slot r₁ window frame pack pipe limit ≡ performedOf c slot r₂ window frame pack pipe limit
-    performed-agree = go (isDone (faultOf c slot (length window) frame pack)) refl
+    pub performed-agree : performedOf c full r₁ window frame pack pipe limit ≡ performedOf c full r₂ window frame pack pipe limit
+    performed-agree = go (isDone (faultOf c full (length window) frame pack)) refl
       where
-        go : (b : Bool) → isDone (faultOf c slot (length window) frame pack) ≡ b
-            → performedOf c slot r₁ window frame pack pipe limit ≡ performedOf c slot r₂ window frame pack pipe limit
+        go : (b : Bool) → isDone (faultOf c full (length window) frame pack) ≡ b
+            → performedOf c full r₁ window frame pack pipe limit ≡ performedOf c full r₂ window frame pack pipe limit
         go true e =
-            performed-work c slot r₁ window frame pack pipe limit e
-            ∙ work-agree c window frame pack pipe limit (payload-agree (header-done c slot (length window) frame pack e))
-            ∙ sym (performed-work c slot r₂ window frame pack pipe limit e)
+            performed-work c full r₁ window frame pack pipe limit e
+            ∙ work-agree c window frame pack pipe limit (payload-agree (header-done c full (length window) frame pack e))
+            ∙ sym (performed-work c full r₂ window frame pack pipe limit e)
         go false e =
-            performed-fault c slot r₁ window frame pack pipe limit e
-            ∙ sym (performed-fault c slot r₂ window frame pack pipe limit e)
+            performed-fault c full r₁ window frame pack pipe limit e
+            ∙ sym (performed-fault c full r₂ window frame pack pipe limit e)

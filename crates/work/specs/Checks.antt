@@ -15,9 +15,9 @@ use Rattle.command.specs.Table.{rowOf}
 use Rattle.command.specs.Frame.{notAMultiple, frameMisaligned, frameOutside, frameUnfit}
 use Rattle.work.specs.Shape.{isRectangle, widthOf, heightOf, tooNarrow, endOf}
 
--- 5: emit set and the slot holds 4,294,967,295
-unfoldable pub slotFault : Command → ℕ → Outcome
-slotFault c slot = either (emitBit (c .flags) && eqb slot 4294967295) SlotFull Done
+-- 5: emit set and the slot is full
+unfoldable pub slotFault : Command → Bool → Outcome
+slotFault c full = either (emitBit (c .flags) && full) SlotFull Done
 
 -- 6: an address (01, 02, 10, 11, 23), or SET_FB's base or stride, not a multiple of 4
 unfoldable pub misaligned : Command → Bool

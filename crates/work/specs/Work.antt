@@ -28,10 +28,10 @@ pub record Left : Type 0 where
   pub pipe : List ℕ
 
 -- what a function returns and leaves in the window and the pipe is this
-pub record Shows (r : Performed) (window pipe : List ℕ) (l : Left) : Type 0 where
+pub record Shows (r : Performed) (w p : List ℕ) (l : Left) : Type 0 where
   pub answer : r ≡ l .performed
-  pub memory : window ≡ l .window
-  pub words : pipe ≡ l .pipe
+  pub window : w ≡ l .window
+  pub pipe : p ≡ l .pipe
 
 -- this outcome, with this frame, window and pipe after it
 unfoldable pub leaves : Outcome → Frame → List ℕ → List ℕ → Left

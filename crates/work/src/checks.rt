@@ -20,11 +20,11 @@ use pack::kernels::kernel_count;
 use words::choice::both;
 use words::choice::one_of;
 
-// Outcome 5, of the number that the command's slot holds.
-pub fn slot_fault(command: Command, slot: u32) -> Outcome
-    ensures { λ r. ⌜ r ≡ slotFault command slot ⌝ }
+// Outcome 5; `full` tells whether the command's slot is.
+pub fn slot_fault(command: Command, full: bool) -> Outcome
+    ensures { λ r. ⌜ r ≡ slotFault command full ⌝ }
 {
-    if both(flags::emit(command.flags), slot == 0xffff_ffff) {
+    if both(flags::emit(command.flags), full) {
         return Outcome::SlotFull;
     }
     Outcome::Done

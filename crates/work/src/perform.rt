@@ -12,26 +12,26 @@ use command::header::Command;
 use command::outcome::Outcome;
 use command::outcome::is_done;
 
-fn fault(command: Command, slot: u32, length: usize, frame: Frame, pack: &[u8]) -> Outcome
-    ensures { λ r. ⌜ r ≡ faultOf command slot length frame (now (pack .entry)) ⌝ }
+fn fault(command: Command, full: bool, length: usize, frame: Frame, pack: &[u8]) -> Outcome
+    ensures { λ r. ⌜ r ≡ faultOf command full length frame (now (pack .entry)) ⌝ }
 {
     let header = header_fault(command);
     if is_done(header) {
-        let full = slot_fault(command, slot);
-        if is_done(full) {
+        let slot = slot_fault(command, full);
+        if is_done(slot) {
             check(command, length, frame, pack)
         } else {
-            full
+            slot
         }
     } else {
         header
     }
 }
 
-// `slot` is the number that the command's slot holds, and `limit` the steps of a thread.
+// `full` tells whether the command's slot is, and `limit` is the steps of a thread.
 pub fn perform(
     command: Command,
-    slot: u32,
+    full: bool,
     ring: &[u8],
     window: &mut [u8],
     frame: Frame,
@@ -40,9 +40,9 @@ pub fn perform(
     limit: u32,
 ) -> Performed
     requires { ⌜ Lent command (now ring) (now pipe) ⌝ }
-    ensures { λ r. ⌜ Shows r (now (window .exit)) (now (pipe .exit)) (performedOf command slot (now (ring .entry)) (now (window .entry)) frame (now (pack .entry)) (now (pipe .entry)) limit) ⌝ }
+    ensures { λ r. ⌜ Shows r (now (window .exit)) (now (pipe .exit)) (performedOf command full (now (ring .entry)) (now (window .entry)) frame (now (pack .entry)) (now (pipe .entry)) limit) ⌝ }
 {
-    let fault = fault(command, slot, window.len(), frame, pack);
+    let fault = fault(command, full, window.len(), frame, pack);
     if is_done(fault) {
         work(command, ring, window, frame, pack, pipe, limit)
     } else {

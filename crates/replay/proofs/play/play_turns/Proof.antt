@@ -5,8 +5,8 @@ use lib.ListN.{length}
 use native.Mathlib.Omega.{arith}
 use borrow.Author.Needs.{needs}
 use denote.Ref.{now}
-use Rattle.device.specs.Turn.{callOf}
-use Rattle.device.specs.Left.{bytesLeft}
+use Rattle.device.specs.Turn.{ringIn, callOf}
+use Rattle.device.specs.Untaken.{untakenIn}
 use Rattle.replay.specs.Transcript.{emptyPipe}
 use Rattle.replay.proofs.InPlay.{In-play, starts, line-fits, ends-idle, ends-refused, falls, goes-on}
 use Rattle.replay.proofs.play.play_turns.Statement.{statement}
@@ -16,7 +16,7 @@ abbrev Inv-loop : tie.InvT-loop
 Inv-loop memory₀ r0 r1 r2 r3 pack text₀ pipe₀ d₀ turns₀ n₀ memory text pipe d turns n = In-play d₀ (callOf memory₀ r0 r1 r2 r3 pack emptyPipe) (length memory₀) text₀ d (callOf memory r0 r1 r2 r3 pack pipe) text turns n
 
 abbrev μ-loop : tie.MeasureT-loop
-μ-loop memory₀ r0 r1 r2 r3 pack text₀ pipe₀ d₀ turns₀ n₀ memory text pipe d turns n = bytesLeft d (callOf [] r0 r1 r2 r3 [] [])
+μ-loop memory₀ r0 r1 r2 r3 pack text₀ pipe₀ d₀ turns₀ n₀ memory text pipe d turns n = untakenIn (ringIn (callOf [] r0 r1 r2 r3 [] [])) d
 
 loop-holds : tie.Need-loop-holds Inv-loop μ-loop
 unfolding emptyPipe
@@ -78,7 +78,7 @@ returns-2 c =
     ends-refused (c .before .before .before .before .before .before .before .before .before .before .before .before .before .before .loop .inv) (c .before .before .before .before .before .before .before .before .before .before .before .turn .ensures) _ (c .before .before .before .before .before .before .answer2 .given .1) (rw (c .before .before .before .refusal-number .ensures) at (t .ensures .0)) (t .ensures .1) (t .kept .0) (c .before .before .before .before .before .before .before .before .before .before .before .before .before .before .before .before .before .before .before .before .before .before .pre .2)
 
 loop-less : tie.Need-loop-less Inv-loop μ-loop
-unfolding bytesLeft
+unfolding untakenIn
 loop-less c = omega (arith, falls (c .before .before .before .before .before .before .before .before .before .before .before .before .before .before .loop .inv) (c .before .before .before .before .before .before .before .before .before .before .before .turn .ensures) _ (c .before .before .before .before .before .before .answer .given .1))
 
 loop-again : tie.Need-loop-again Inv-loop μ-loop

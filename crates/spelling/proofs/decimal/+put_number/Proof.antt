@@ -1,4 +1,4 @@
--- `job::decimal::put_number` meets its contract. It calls itself at the tenth of its number, which is the measure.
+-- `spelling::decimal::put_number` meets its contract. It calls itself at the tenth of its number, which is the measure.
 -- Assumes nothing.
 use mathlib.Core.Path.{refl, ap}
 use native.Mathlib.Omega.{arith}

@@ -1,4 +1,4 @@
--- `job::decimal::put_field` meets its contract. Assumes nothing.
+-- `spelling::decimal::put_field` meets its contract. Assumes nothing.
 use native.Mathlib.Omega.{arith}
 use lib.ListN.{length-append}
 use Rattle.spelling.proofs.DecimalLaws.{digits-of-word}

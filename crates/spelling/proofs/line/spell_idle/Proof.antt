@@ -1,4 +1,4 @@
--- `job::line::spell_idle` meets its contract. Assumes nothing.
+-- `spelling::line::spell_idle` meets its contract. Assumes nothing.
 use Rattle.spelling.specs.Line.{idleWord}
 use lib.ListN.{length-set}
 use mathlib.Core.Path.{refl}

@@ -1,4 +1,4 @@
--- `job::line::spell_refused` meets its contract. Assumes nothing.
+-- `spelling::line::spell_refused` meets its contract. Assumes nothing.
 use Rattle.spelling.specs.Line.{refusedWord}
 use lib.ListN.{length-set}
 use mathlib.Core.Path.{refl}

@@ -1,4 +1,4 @@
--- `job::line::spell_turn` meets its contract. Assumes nothing.
+-- `spelling::line::spell_turn` meets its contract. Assumes nothing.
 use native.Mathlib.Omega.{arith}
 use Rattle.spelling.proofs.LineLaws.{join, spelled, turn-line}
 use borrow.Author.Needs.{needs}

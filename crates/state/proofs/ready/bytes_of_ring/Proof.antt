@@ -1,4 +1,4 @@
--- `device::ready::bytes_of_ring` meets its contract. Assumes nothing.
+-- `state::ready::bytes_of_ring` meets its contract. Assumes nothing.
 use Rattle.state.specs.Ready.{bytesOfRing}
 use Rattle.words.specs.Choice.{either}
 use borrow.Author.Tests.{ne-eqb}

@@ -1,4 +1,4 @@
--- `device::ready::is_ready` meets its contract. Assumes nothing.
+-- `state::ready::is_ready` meets its contract. Assumes nothing.
 use Rattle.state.specs.Ready.{readyWhere}
 use borrow.Author.Needs.{needs}
 use Rattle.state.proofs.ready.is_ready.Statement.{statement}

@@ -1,4 +1,4 @@
--- `device::ready::next_ring` meets its contract. Assumes nothing.
+-- `state::ready::next_ring` meets its contract. Assumes nothing.
 use Rattle.state.specs.Ready.{nextRing}
 use Rattle.words.specs.Choice.{either}
 use borrow.Author.Tests.{lt-ltb, le-ltb}

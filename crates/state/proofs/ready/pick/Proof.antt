@@ -1,4 +1,4 @@
--- `device::ready::pick` meets its contract. The loop's invariant: no ring passed over was ready, so the first ready of the rings left is the one sought.
+-- `state::ready::pick` meets its contract. The loop's invariant: no ring passed over was ready, so the first ready of the rings not tried is the one sought.
 -- Assumes nothing.
 use Prim.Native.Nat.{_≤_, _<_}
 use mathlib.Core.Path.{_≡_, refl, sym, _∙_}
@@ -11,11 +11,11 @@ use Rattle.state.proofs.ready.pick.Statement.{statement}
 use Rattle.state.proofs.ready.pick.Tie as tie
 
 abbrev Inv-loop : tie.InvT-loop
-Inv-loop r0 r1 r2 r3 d q₀ left₀ q left =
-    (left ≤ 4) × (q < 4) × (pickOf d r0 r1 r2 r3 ≡ seek (λ p. readyAt d p (bytesOfRing p r0 r1 r2 r3)) q left)
+Inv-loop r0 r1 r2 r3 d q₀ untried₀ q untried =
+    (untried ≤ 4) × (q < 4) × (pickOf d r0 r1 r2 r3 ≡ seek (λ p. readyAt d p (bytesOfRing p r0 r1 r2 r3)) q untried)
 
 abbrev μ-loop : tie.MeasureT-loop
-μ-loop r0 r1 r2 r3 d q₀ left₀ q left = left
+μ-loop r0 r1 r2 r3 d q₀ untried₀ q untried = untried
 
 loop-holds : tie.Need-loop-holds Inv-loop μ-loop
 unfolding pickOf
@@ -40,8 +40,8 @@ is-ready-requires c κs = c .before .before .before .before .before .before .bef
 next-ring-requires : tie.Need-next-ring-requires Inv-loop μ-loop
 next-ring-requires c κs = search needs
 
-sub-left : tie.Need-sub-left Inv-loop μ-loop
-sub-left c = omega arith
+sub-untried : tie.Need-sub-untried Inv-loop μ-loop
+sub-untried c = omega arith
 
 loop-less : tie.Need-loop-less Inv-loop μ-loop
 loop-less c = omega arith
@@ -75,7 +75,7 @@ pick-spec =
     bytes-of-ring-requires
     is-ready-requires
     next-ring-requires
-    sub-left
+    sub-untried
     loop-less
     loop-again
     returns

@@ -1,4 +1,4 @@
--- `device::ready::ready_with` meets its contract. Assumes nothing.
+-- `state::ready::ready_with` meets its contract. Assumes nothing.
 use Rattle.state.specs.Ready.{readyWith}
 use borrow.Author.Needs.{needs}
 use Rattle.state.proofs.ready.ready_with.Statement.{statement}

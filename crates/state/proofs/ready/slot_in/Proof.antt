@@ -1,4 +1,4 @@
--- `device::ready::slot_in` meets its contract. Assumes nothing.
+-- `state::ready::slot_in` meets its contract. Assumes nothing.
 use mathlib.Core.Path.{sym}
 use lib.ListN.{List·getD-eq-default}
 use borrow.Author.Needs.{needs}

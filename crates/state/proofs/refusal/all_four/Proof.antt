@@ -1,4 +1,4 @@
--- `device::refusal::all_four` meets its contract. Assumes nothing.
+-- `state::refusal::all_four` meets its contract. Assumes nothing.
 use borrow.Author.Needs.{needs}
 use Rattle.state.proofs.refusal.all_four.Statement.{statement}
 use Rattle.state.proofs.refusal.all_four.Tie as tie

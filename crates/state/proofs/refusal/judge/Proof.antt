@@ -1,4 +1,4 @@
--- `device::refusal::judge` meets its contract. Assumes nothing.
+-- `state::refusal::judge` meets its contract. Assumes nothing.
 use denote.Ref.{now}
 use mathlib.Core.Path.{_≡_}
 use lib.Dec.{leb}

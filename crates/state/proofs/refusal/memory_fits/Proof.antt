@@ -1,4 +1,4 @@
--- `device::refusal::memory_fits` meets its contract. Assumes nothing.
+-- `state::refusal::memory_fits` meets its contract. Assumes nothing.
 use Rattle.state.specs.Refusal.{memoryFits}
 use borrow.Author.Needs.{needs}
 use Rattle.state.proofs.refusal.memory_fits.Statement.{statement}

@@ -1,4 +1,4 @@
--- `device::refusal::refusal_number` meets its contract. Assumes nothing.
+-- `state::refusal::refusal_number` meets its contract. Assumes nothing.
 use Rattle.state.specs.Refusal.{refusalNumber}
 use borrow.Author.Needs.{needs}
 use Rattle.state.proofs.refusal.refusal_number.Statement.{statement}

@@ -1,4 +1,4 @@
--- `device::refusal::ring_fits` meets its contract. Assumes nothing.
+-- `state::refusal::ring_fits` meets its contract. Assumes nothing.
 use Rattle.state.specs.Refusal.{ringFits}
 use borrow.Author.Needs.{needs}
 use Rattle.state.proofs.refusal.ring_fits.Statement.{statement}

@@ -1,4 +1,4 @@
--- `device::refusal::ring_sound` meets its contract. Assumes nothing.
+-- `state::refusal::ring_sound` meets its contract. Assumes nothing.
 use Rattle.state.specs.Refusal.{ringSound}
 use borrow.Author.Needs.{needs}
 use Rattle.state.proofs.refusal.ring_sound.Statement.{statement}

@@ -1,4 +1,4 @@
--- `device::refusal::rings_fit` meets its contract. Assumes nothing.
+-- `state::refusal::rings_fit` meets its contract. Assumes nothing.
 use Rattle.state.specs.Refusal.{ringsFit}
 use borrow.Author.Needs.{needs}
 use Rattle.state.proofs.refusal.rings_fit.Statement.{statement}

@@ -1,4 +1,4 @@
--- `device::refusal::state_sound` meets its contract. Assumes nothing.
+-- `state::refusal::state_sound` meets its contract. Assumes nothing.
 use Rattle.state.specs.Refusal.{stateSound}
 use borrow.Author.Needs.{needs}
 use Rattle.state.proofs.refusal.state_sound.Statement.{statement}

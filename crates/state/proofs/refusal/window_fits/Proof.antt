@@ -1,4 +1,4 @@
--- `device::refusal::window_fits` meets its contract. Assumes nothing.
+-- `state::refusal::window_fits` meets its contract. Assumes nothing.
 use Rattle.state.specs.Refusal.{windowFits}
 use borrow.Author.Needs.{needs}
 use Rattle.state.proofs.refusal.window_fits.Statement.{statement}

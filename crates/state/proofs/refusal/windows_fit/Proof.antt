@@ -1,4 +1,4 @@
--- `device::refusal::windows_fit` meets its contract. Assumes nothing.
+-- `state::refusal::windows_fit` meets its contract. Assumes nothing.
 use Rattle.state.specs.Refusal.{windowsFit}
 use borrow.Author.Needs.{needs}
 use Rattle.state.proofs.refusal.windows_fit.Statement.{statement}

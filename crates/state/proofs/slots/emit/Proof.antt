@@ -1,4 +1,4 @@
--- `device::slots::emit` meets its contract. Assumes nothing.
+-- `state::slots::emit` meets its contract. Assumes nothing.
 use Rattle.state.specs.Slots.{emittedIn}
 use mathlib.Core.Path.{_≡_, sym}
 use lib.ListN.{length}

@@ -1,4 +1,4 @@
--- `command::checks::check` meets its contract. Assumes nothing.
+-- `work::checks::check` meets its contract. Assumes nothing.
 use denote.Ref.{now}
 use mathlib.Core.Path.{_≡_}
 use Rattle.command.specs.declared.outcome.Outcome.the-variants.{Done, Misaligned, NoFrame, OutsideTheWindow, BadFrame, BadDispatch}

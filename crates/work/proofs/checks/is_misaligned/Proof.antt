@@ -1,4 +1,4 @@
--- `command::checks::is_misaligned` meets its contract. Assumes nothing.
+-- `work::checks::is_misaligned` meets its contract. Assumes nothing.
 use Rattle.work.specs.Checks.{misaligned}
 use borrow.Author.Needs.{needs}
 use Rattle.work.proofs.checks.is_misaligned.Statement.{statement}

@@ -1,4 +1,4 @@
--- `command::checks::is_out_of_range` meets its contract. Assumes nothing.
+-- `work::checks::is_out_of_range` meets its contract. Assumes nothing.
 use Rattle.work.specs.Checks.{outOfRange}
 use borrow.Author.Needs.{needs}
 use Rattle.work.proofs.checks.is_out_of_range.Statement.{statement}

@@ -1,4 +1,4 @@
--- `command::checks::is_outside` meets its contract. Assumes nothing.
+-- `work::checks::is_outside` meets its contract. Assumes nothing.
 use Rattle.work.specs.Checks.{outside}
 use borrow.Author.Needs.{needs}
 use Rattle.work.proofs.checks.is_outside.Statement.{statement}

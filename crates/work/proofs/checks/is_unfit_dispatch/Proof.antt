@@ -1,4 +1,4 @@
--- `command::checks::is_unfit_dispatch` meets its contract. Assumes nothing.
+-- `work::checks::is_unfit_dispatch` meets its contract. Assumes nothing.
 use Rattle.work.specs.Checks.{unfitDispatch}
 use borrow.Author.Needs.{needs}
 use Rattle.work.proofs.checks.is_unfit_dispatch.Statement.{statement}

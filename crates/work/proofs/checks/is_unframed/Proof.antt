@@ -1,4 +1,4 @@
--- `command::checks::is_unframed` meets its contract. Assumes nothing.
+-- `work::checks::is_unframed` meets its contract. Assumes nothing.
 use Rattle.work.proofs.Shapes.{width-fits}
 use Rattle.work.specs.Checks.{unframed}
 use borrow.Author.Needs.{needs}

@@ -1,4 +1,4 @@
--- `command::checks::slot_fault` meets its contract. Assumes nothing.
+-- `work::checks::slot_fault` meets its contract. Assumes nothing.
 use Rattle.words.proofs.Choices.{chosen, passed}
 use mathlib.Core.Path.{refl}
 use Rattle.work.specs.Checks.{slotFault}

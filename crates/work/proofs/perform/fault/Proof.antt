@@ -1,4 +1,4 @@
--- `command::perform::fault` meets its contract. Assumes nothing.
+-- `work::perform::fault` meets its contract. Assumes nothing.
 use Rattle.words.proofs.Choices.{chosen, passed}
 use Rattle.work.specs.Perform.{orElse, faultOf}
 use borrow.Author.Needs.{needs}

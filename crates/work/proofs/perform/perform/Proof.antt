@@ -1,4 +1,4 @@
--- `command::perform::perform` meets its contract. Assumes nothing.
+-- `work::perform::perform` meets its contract. Assumes nothing.
 use denote.Ref.{now}
 use lib.ListN.{length}
 use mathlib.Core.Path.{_∙_, refl}
@@ -20,8 +20,8 @@ work-requires c κs =
     let a = c .before .before .before .before .before .before .before .before .before .args in
     let lent = c .before .before .before .before .before .before .before .before .before .pre in
     let fine = rw (c .before .before .before .is-done .ensures, c .before .before .before .before .fault .ensures) at (c .before .before .if1 .taken) in
-    let payload = payload-as-in-table (a .command) (header-done (a .command) (a .slot) (length (now (a .window))) (a .frame) (now (a .pack)) fine) in (
-      not-outside (a .command) (length (now (a .window))) (a .frame) (now (a .pack)) (check-done (a .command) (a .slot) (length (now (a .window))) (a .frame) (now (a .pack)) fine),
+    let payload = payload-as-in-table (a .command) (header-done (a .command) (a .full) (length (now (a .window))) (a .frame) (now (a .pack)) fine) in (
+      not-outside (a .command) (length (now (a .window))) (a .frame) (now (a .pack)) (check-done (a .command) (a .full) (length (now (a .window))) (a .frame) (now (a .pack)) fine),
       (λ set. lent .payload (payload ∙ set)),
       lent .room,
     )
@@ -36,14 +36,14 @@ returns : tie.Need-returns
 returns c =
     let a = c .before .before .before .before .before .before .before .before .before .before .before .before .before .before .args in
     let fine = rw (c .before .before .before .before .before .before .before .before .is-done .ensures, c .before .before .before .before .before .before .before .before .before .fault .ensures) at (c .before .before .before .before .before .before .before .if1 .taken) in
-    rw (performed-work (a .command) (a .slot) (now (a .ring)) (now (a .window)) (a .frame) (now (a .pack)) (now (a .pipe)) (a .limit) fine) (c .before .before .before .before .work .ensures)
+    rw (performed-work (a .command) (a .full) (now (a .ring)) (now (a .window)) (a .frame) (now (a .pack)) (now (a .pipe)) (a .limit) fine) (c .before .before .before .before .work .ensures)
 
 returns-2 : tie.Need-returns-2
 unfolding leaves
 returns-2 c =
     let a = c .before .before .before .before .before .before .before .args in
     let faulty = rw (c .before .is-done .ensures, c .before .before .fault .ensures) at (c .if1 .left) in
-    rw (performed-fault (a .command) (a .slot) (now (a .ring)) (now (a .window)) (a .frame) (now (a .pack)) (now (a .pipe)) (a .limit) faulty) (record { answer = rw (c .before .before .fault .ensures); memory = refl; words = refl })
+    rw (performed-fault (a .command) (a .full) (now (a .ring)) (now (a .window)) (a .frame) (now (a .pack)) (now (a .pipe)) (a .limit) faulty) (record { answer = rw (c .before .before .fault .ensures); window = refl; pipe = refl })
 
 pub perform-spec : {M : Type 1} → statement M
 perform-spec =

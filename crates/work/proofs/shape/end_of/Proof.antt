@@ -1,4 +1,4 @@
--- `command::shape::end_of` meets its contract. Assumes nothing.
+-- `work::shape::end_of` meets its contract. Assumes nothing.
 use mathlib.Core.Path.{refl}
 use Rattle.work.specs.Shape.{endOf}
 use Rattle.words.proofs.Choices.{chosen, passed}

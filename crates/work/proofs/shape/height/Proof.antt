@@ -1,4 +1,4 @@
--- `command::shape::height` meets its contract. Assumes nothing.
+-- `work::shape::height` meets its contract. Assumes nothing.
 use Rattle.work.specs.Shape.{heightOf}
 use borrow.Author.Needs.{needs}
 use Rattle.work.proofs.shape.height.Statement.{statement}

@@ -1,4 +1,4 @@
--- `command::shape::is_rectangle` meets its contract. Assumes nothing.
+-- `work::shape::is_rectangle` meets its contract. Assumes nothing.
 use Rattle.work.specs.Shape.{isRectangle}
 use borrow.Author.Needs.{needs}
 use Rattle.work.proofs.shape.is_rectangle.Statement.{statement}

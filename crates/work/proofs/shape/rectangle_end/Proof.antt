@@ -1,4 +1,4 @@
--- `command::shape::rectangle_end` meets its contract. Assumes nothing.
+-- `work::shape::rectangle_end` meets its contract. Assumes nothing.
 use Rattle.memory.specs.Rectangle.{rectangleEnd}
 use borrow.Author.Tests.{ne-eqb}
 use native.Mathlib.Omega.{arith}

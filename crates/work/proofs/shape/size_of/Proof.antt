@@ -1,4 +1,4 @@
--- `command::shape::size_of` meets its contract. Assumes nothing.
+-- `work::shape::size_of` meets its contract. Assumes nothing.
 use Rattle.work.specs.Shape.{sizeOf}
 use borrow.Author.Tests.{eq-eqb, ne-eqb}
 use Rattle.words.proofs.Choices.{chosen, passed}

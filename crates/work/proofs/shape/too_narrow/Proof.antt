@@ -1,4 +1,4 @@
--- `command::shape::too_narrow` meets its contract. Assumes nothing.
+-- `work::shape::too_narrow` meets its contract. Assumes nothing.
 use Rattle.work.specs.Shape.{tooNarrow}
 use borrow.Author.Needs.{needs}
 use Rattle.work.proofs.shape.too_narrow.Statement.{statement}

@@ -1,4 +1,4 @@
--- `command::shape::width` meets its contract. Assumes nothing.
+-- `work::shape::width` meets its contract. Assumes nothing.
 use Rattle.work.specs.Shape.{widthOf}
 use borrow.Author.Needs.{needs}
 use Rattle.work.proofs.shape.width.Statement.{statement}

@@ -1,4 +1,4 @@
--- `command::work::blit_rect` meets its contract. Assumes nothing.
+-- `work::work::blit_rect` meets its contract. Assumes nothing.
 use borrow.Author.Needs.{needs}
 use Rattle.work.proofs.work.blit_rect.Statement.{statement}
 use Rattle.work.proofs.work.blit_rect.Tie as tie

@@ -1,4 +1,4 @@
--- `command::work::fill_rect` meets its contract. Assumes nothing.
+-- `work::work::fill_rect` meets its contract. Assumes nothing.
 use borrow.Author.Needs.{needs}
 use Rattle.work.proofs.work.fill_rect.Statement.{statement}
 use Rattle.work.proofs.work.fill_rect.Tie as tie

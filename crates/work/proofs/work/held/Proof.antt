@@ -1,4 +1,4 @@
--- `command::work::held` meets its contract. Assumes nothing.
+-- `work::work::held` meets its contract. Assumes nothing.
 use Rattle.work.specs.Work.{heldBy}
 use mathlib.Core.Path.{refl}
 use Rattle.work.proofs.work.held.Statement.{statement}

@@ -1,4 +1,4 @@
--- `command::work::ran_outcome` meets its contract. Assumes nothing.
+-- `work::work::ran_outcome` meets its contract. Assumes nothing.
 use Rattle.work.specs.Work.{ranOutcome}
 use borrow.Author.Needs.{needs}
 use Rattle.work.proofs.work.ran_outcome.Statement.{statement}

@@ -1,4 +1,4 @@
--- `command::work::run` meets its contract. Assumes nothing.
+-- `work::work::run` meets its contract. Assumes nothing.
 use Rattle.work.specs.Work.{dispatchedBy}
 use borrow.Author.Needs.{needs}
 use Rattle.work.proofs.work.run.Statement.{statement}

@@ -1,4 +1,4 @@
--- `command::work::work` meets its contract. Assumes nothing.
+-- `work::work::work` meets its contract. Assumes nothing.
 use borrow.Author.Tests.{ne-eqb}
 use native.Mathlib.Omega.{arith}
 use mathlib.Core.Path.{refl}
@@ -62,7 +62,7 @@ unfolding leaves afterDispatch
 returns c =
     let a = c .before .before .before .before .before .before .before .before .before .before .before .args in
     rw (work-dispatch (a .command) (now (a .ring)) (now (a .window)) (a .frame) (now (a .pack)) (now (a .pipe)) (a .limit) (c .before .before .before .before .match .keys6))
-    (record { answer = rw (c .before .before .run .ensures .0); memory = c .before .before .run .ensures .1; words = refl })
+    (record { answer = rw (c .before .before .run .ensures .0); window = c .before .before .run .ensures .1; pipe = refl })
 
 held-requires : tie.Need-held-requires
 held-requires c κs = search needs
@@ -72,7 +72,7 @@ unfolding leaves
 returns-2 c =
     let a = c .before .before .before .before .before .before .before .before .args in
     rw (work-set (a .command) (now (a .ring)) (now (a .window)) (a .frame) (now (a .pack)) (now (a .pipe)) (a .limit) (c .before .match .keys7))
-    (record { answer = rw (c .held .ensures); memory = refl; words = refl })
+    (record { answer = rw (c .held .ensures); window = refl; pipe = refl })
 
 same-length-2 : tie.Need-same-length-2
 same-length-2 c = search needs
@@ -82,7 +82,7 @@ unfolding leaves
 returns-3 c =
     let a = c .before .before .before .before .before .before .before .before .before .before .before .args in
     rw (work-write (a .command) (now (a .ring)) (now (a .window)) (a .frame) (now (a .pack)) (now (a .pipe)) (a .limit) (c .before .before .before .before .match .keys1))
-    (record { answer = refl; memory = c .before .before .write-words .ensures; words = refl })
+    (record { answer = refl; window = c .before .before .write-words .ensures; pipe = refl })
 
 same-length-3 : tie.Need-same-length-3
 same-length-3 c = search needs
@@ -95,7 +95,7 @@ unfolding leaves
 returns-4 c =
     let a = c .before .before .before .before .before .before .before .before .before .before .before .before .args in
     rw (work-read (a .command) (now (a .ring)) (now (a .window)) (a .frame) (now (a .pack)) (now (a .pipe)) (a .limit) (c .before .before .before .before .before .match .keys2))
-    (record { answer = refl; memory = refl; words = c .before .before .read-words .ensures })
+    (record { answer = refl; window = refl; pipe = c .before .before .read-words .ensures })
 
 same-length-5 : tie.Need-same-length-5
 same-length-5 c = search needs
@@ -105,7 +105,7 @@ unfolding leaves
 returns-5 c =
     let a = c .before .before .before .before .before .before .before .before .before .before .before .args in
     rw (work-fill (a .command) (now (a .ring)) (now (a .window)) (a .frame) (now (a .pack)) (now (a .pipe)) (a .limit) (c .before .before .before .before .match .keys3))
-    (record { answer = refl; memory = c .before .before .fill-rect .ensures; words = refl })
+    (record { answer = refl; window = c .before .before .fill-rect .ensures; pipe = refl })
 
 same-length-6 : tie.Need-same-length-6
 same-length-6 c = search needs
@@ -115,7 +115,7 @@ unfolding leaves
 returns-6 c =
     let a = c .before .before .before .before .before .before .before .before .before .before .before .args in
     rw (work-blit (a .command) (now (a .ring)) (now (a .window)) (a .frame) (now (a .pack)) (now (a .pipe)) (a .limit) (c .before .before .before .before .match .keys4))
-    (record { answer = refl; memory = c .before .before .blit-rect .ensures; words = refl })
+    (record { answer = refl; window = c .before .before .blit-rect .ensures; pipe = refl })
 
 same-length-7 : tie.Need-same-length-7
 same-length-7 c = search needs
@@ -125,14 +125,14 @@ unfolding leaves
 returns-7 c =
     let a = c .before .before .before .before .before .before .before .before .before .before .before .before .args in
     rw (work-copy (a .command) (now (a .ring)) (now (a .window)) (a .frame) (now (a .pack)) (now (a .pipe)) (a .limit) (c .before .before .before .before .before .match .keys5))
-    (record { answer = refl; memory = c .before .before .copy .ensures; words = refl })
+    (record { answer = refl; window = c .before .before .copy .ensures; pipe = refl })
 
 returns-8 : tie.Need-returns-8
 unfolding leaves
 returns-8 c =
     let a = c .before .before .before .before .before .before .before .args in
     rw (work-nothing (a .command) (now (a .ring)) (now (a .window)) (a .frame) (now (a .pack)) (now (a .pipe)) (a .limit) (ne-eqb _ _ (c .match .rest .0 .0 .0 .0 .0 .0 .1)) (ne-eqb _ _ (c .match .rest .0 .0 .0 .0 .0 .1)) (ne-eqb _ _ (c .match .rest .0 .0 .0 .0 .1)) (ne-eqb _ _ (c .match .rest .0 .0 .0 .1)) (ne-eqb _ _ (c .match .rest .0 .1)) (ne-eqb _ _ (c .match .rest .0 .0 .1)) (ne-eqb _ _ (c .match .rest .1)))
-    (record { answer = refl; memory = refl; words = refl })
+    (record { answer = refl; window = refl; pipe = refl })
 
 pub work-spec : {M : Type 1} → statement M
 work-spec =

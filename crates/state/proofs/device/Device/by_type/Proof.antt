@@ -1,4 +1,4 @@
--- `device::state::Device::by_type` meets its contract: `c .good` is what the type gives. Assumes nothing.
+-- `state::device::Device::by_type` meets its contract: `c .good` is what the type gives. Assumes nothing.
 use mathlib.Core.Path.{_≡_, refl}
 use lib.ListN.{length, getD, length-map}
 use mir.Syntax.{w32}

@@ -1,4 +1,4 @@
--- `device::state::Device::fresh` meets its contract. Assumes nothing.
+-- `state::device::Device::fresh` meets its contract. Assumes nothing.
 use Rattle.state.specs.Device.{freshDevice}
 use borrow.Author.Needs.{needs}
 use Rattle.state.proofs.device.Device.fresh.Statement.{statement}

@@ -1,4 +1,4 @@
--- `device::state::Device::ring` meets its contract. Assumes nothing.
+-- `state::device::Device::ring` meets its contract. Assumes nothing.
 use Rattle.state.specs.Device.{ringOf}
 use mathlib.Core.Path.{refl}
 use borrow.Author.Needs.{needs}

@@ -1,4 +1,4 @@
--- `device::state::Device::slot` meets its contract. Assumes nothing.
+-- `state::device::Device::slot` meets its contract. Assumes nothing.
 use Rattle.state.specs.Device.{slotOf}
 use mathlib.Core.Path.{_≡_, refl, sym}
 use lib.ListN.{length, List·getD-eq-default}

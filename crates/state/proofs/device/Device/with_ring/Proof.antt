@@ -1,4 +1,4 @@
--- `device::state::Device::with_ring` meets its contract. Assumes nothing.
+-- `state::device::Device::with_ring` meets its contract. Assumes nothing.
 use Rattle.state.specs.Device.{withRing}
 use mathlib.Core.Path.{refl}
 use borrow.Author.Needs.{needs}

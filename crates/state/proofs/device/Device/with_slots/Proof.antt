@@ -1,4 +1,4 @@
--- `device::state::Device::with_slots` meets its contract. Assumes nothing.
+-- `state::device::Device::with_slots` meets its contract. Assumes nothing.
 use Rattle.state.specs.Device.{withSlots}
 use mathlib.Core.Path.{refl}
 use Rattle.state.proofs.device.Device.with_slots.Statement.{statement}

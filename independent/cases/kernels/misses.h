@@ -1,0 +1,14 @@
+/* Single words: listed, or near the list. */
+#ifndef MISSES_H
+#define MISSES_H
+
+#include "cases/kernels/chance.h"
+
+/* A listed word with any fields. */
+uint32_t listed_word(struct chance *c);
+/* A word that is listed or just misses it. */
+uint32_t near_word(struct chance *c);
+/* A word of the instruction reference that the scope page leaves out. */
+uint32_t left_out_word(struct chance *c);
+
+#endif

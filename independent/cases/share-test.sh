@@ -1,0 +1,72 @@
+#!/bin/sh
+# share-test.sh BUILD: a comparison must fail where no turn is served, or few are, though nothing differs. Each program
+# is built with the device as it is, with one that refuses all turns, and with one that refuses most.
+# BUILD: the folder of this folder's objects; CC, CFLAGS and LDFLAGS as for make.
+set -eu
+top=$(cd "$(dirname "$(readlink -f "$0")")/.." && pwd -P)
+build=$1
+work=$build/share-test
+mkdir -p "$work"
+wrong=0
+asked='if (memory_refused(device, lent->memory_len))'
+objects=$(cd "$top" && find device cases -name '*.c' ! -path device/device.c ! -path device/replay.c |
+    sed "s|^|$build/|; s|c\$|o|")
+
+link() { # PROGRAM OBJECT..
+    program=$1
+    shift
+    # shellcheck disable=SC2086
+    ${CC:-gcc} "$@" "$work/device.o" $objects ${LDFLAGS:-} -o "$work/$program"
+}
+
+build_with() { # TEXT: in the place of what is asked first of a turn
+    awk -v old="$asked" -v new="$1" '
+        { at = index($0, old) }
+        at { $0 = substr($0, 1, at - 1) new substr($0, at + length(old)); made++ }
+        { print }
+        END { exit made != 1 }' "$top/device/device.c" > "$work/device.c"
+    # shellcheck disable=SC2086
+    ${CC:-gcc} ${CFLAGS:--std=c11 -O2} -I "$top/device" -c "$work/device.c" -o "$work/device.o"
+    link record "$build/records/record.o" "$build/records/records.o"
+    link recordcheck "$build/records/recordcheck.o" "$build/records/records.o"
+    link compare-self "$build/whole/whole.o" "$build/whole/self.o"
+    link compare-runs "$build/runs/run.o" "$build/runs/outputs.o" "$build/runs/spawn.o"
+    link replay "$build/device/replay.o"
+}
+
+# A run must end with this status; its last two lines must tell the share and, where it compares, no difference.
+try() { # STATUS END COMMAND..
+    wanted=$1
+    end=$2
+    shift 2
+    status=0
+    "$@" > "$work/out" 2> "$work/err" || status=$?
+    told=$(cat "$work/err" "$work/out" | tail -2 | grep -a 'served a command') || told="no share is told"
+    case $status-$(cat "$work/err" "$work/out" | tail -1) in
+    "$wanted"-*"$end") ;;
+    *) wrong=$((wrong + 1)) told="$told; WRONG" ;;
+    esac
+    echo "  ${1##*/}: status $status, $told"
+}
+
+record() { "$work/record" 1 500 > "$work/calls"; }
+
+try_all() { # STATUS
+    try "$1" "" record
+    try "$1" "500 calls, 0 differ" "$work/recordcheck" "$work/calls"
+    try "$1" "500 calls, 0 differ" "$work/compare-self" 500 1
+    try "$1" "500 cases, 0 differ" "$work/compare-runs" 500 1 "$work/replay"
+}
+
+echo "with the device as it is"
+build_with "$asked"
+try_all 0
+echo "with one that refuses all turns"
+build_with "if (lent != NULL)"
+try_all 1
+echo "with one that refuses most turns"
+build_with "if (lent->memory_len % 64 != 0 || memory_refused(device, lent->memory_len))"
+try_all 1
+rm -rf "$work"
+echo "12 runs, $wrong wrong"
+[ $wrong -eq 0 ]

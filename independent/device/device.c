@@ -1,0 +1,153 @@
+/* The device itself: a fresh one, the refusals of a call, and a turn. */
+#include "parts.h"
+
+static int window_fits(uint32_t start, uint32_t length, uint64_t memory_len)
+{
+    return ind_is_four(start) && ind_is_four(length)
+        && (uint64_t)start + length <= memory_len;
+}
+
+static int memory_refused(const struct ind_device *device, uint64_t memory_len)
+{
+    if (memory_len > IND_MEMORY_MOST)
+        return 1;
+    for (uint32_t i = 0; i < IND_RINGS; i++) {
+        const struct ind_ring *ring = &device->rings[i];
+        if (!window_fits(ring->window_start, ring->window_length, memory_len))
+            return 1;
+    }
+    return 0;
+}
+
+uint32_t ind_fresh(struct ind_device *device, uint64_t memory_len,
+                   const uint32_t windows[IND_RINGS][2])
+{
+    const struct ind_device empty = {.marker = 0}; /* and all else 0 too */
+
+    *device = empty;
+    for (uint32_t i = 0; i < IND_RINGS; i++) {
+        device->rings[i].window_start = windows[i][0];
+        device->rings[i].window_length = windows[i][1];
+    }
+    if (!memory_refused(device, memory_len))
+        return 0;
+    *device = empty;
+    return IND_REFUSED_MEMORY;
+}
+
+static int state_refused(const struct ind_device *device)
+{
+    if (device->marker >= IND_RINGS)
+        return 1;
+    for (uint32_t i = 0; i < IND_RINGS; i++) {
+        const struct ind_ring *ring = &device->rings[i];
+        if (ring->cursor > IND_RING_MOST)
+            return 1;
+        if (ring->frame.held != 0
+            && ind_frame_fault(&ring->frame, ring->window_length) != IND_DONE)
+            return 1;
+    }
+    return 0;
+}
+
+static int rings_refused(const struct ind_device *device,
+                         const size_t ring_len[IND_RINGS])
+{
+    for (uint32_t i = 0; i < IND_RINGS; i++) {
+        if (ring_len[i] > IND_RING_MOST
+            || ring_len[i] < device->rings[i].cursor)
+            return 1;
+    }
+    return 0;
+}
+
+/* 101 to 105 in this order, or 0. */
+static uint32_t refusal(const struct ind_device *device,
+                        const struct ind_lent *lent)
+{
+    if (memory_refused(device, lent->memory_len))
+        return IND_REFUSED_MEMORY;
+    if (state_refused(device))
+        return IND_REFUSED_STATE;
+    if (rings_refused(device, lent->ring_len))
+        return IND_REFUSED_RING;
+    if (lent->pipe_len < IND_PIPE_LEAST)
+        return IND_REFUSED_PIPE;
+    if (ind_pack_faulty(lent->pack, lent->pack_len))
+        return IND_REFUSED_PACK;
+    return 0;
+}
+
+/* A faulty header does not wait: its slot may not even exist. */
+static int ready(const struct ind_device *device, uint32_t ring,
+                 const struct ind_lent *lent, struct ind_command *command)
+{
+    if (!ind_command_whole(lent->ring[ring], lent->ring_len[ring],
+                           device->rings[ring].cursor, command))
+        return 0;
+    return ind_header_fault(command) != IND_DONE
+        || (command->flags & FLAG_WAIT) == 0
+        || device->slots[command->rdst] >= command->target;
+}
+
+static uint32_t outcome_of(struct ind_device *device, uint32_t ring,
+                           const struct ind_lent *lent,
+                           const struct ind_command *command)
+{
+    uint32_t outcome = ind_header_fault(command);
+
+    if (outcome == IND_DONE)
+        outcome = ind_work_fault(device, ring, command, lent);
+    if (outcome == IND_DONE)
+        outcome = ind_work(&device->rings[ring], command, lent);
+    return outcome;
+}
+
+static void serve(struct ind_device *device, uint32_t ring,
+                  const struct ind_lent *lent,
+                  const struct ind_command *command, struct ind_report *report)
+{
+    uint32_t outcome = outcome_of(device, ring, lent, command);
+
+    device->rings[ring].cursor += command->size;
+    device->marker = (ring + 1) % IND_RINGS;
+    report->ring = ring;
+    report->outcome = outcome;
+    /* A failed command still signals, unless it has no slot to signal in. */
+    if ((command->flags & FLAG_EMIT) != 0
+        && (outcome == IND_DONE || outcome > IND_SLOT_FULL)) {
+        device->slots[command->rdst] += 1;
+        report->fence = device->slots[command->rdst];
+    }
+    if (command->opcode == READ_MEM && outcome == IND_DONE)
+        report->words_read = command->len;
+    report->irq = (command->flags & FLAG_IRQ) != 0
+        && (outcome == IND_DONE || outcome > IND_NO_SLOT);
+}
+
+uint32_t ind_turn(struct ind_device *device, uint8_t *memory, size_t memory_len,
+                  const uint8_t *const ring[IND_RINGS],
+                  const size_t ring_len[IND_RINGS], const uint8_t *pack,
+                  size_t pack_len, uint8_t *pipe, size_t pipe_len,
+                  struct ind_report *report)
+{
+    const struct ind_lent lent = {
+        memory, memory_len, ring, ring_len, pack, pack_len, pipe, pipe_len
+    };
+    const struct ind_report nothing = {.status = 0}; /* and all else 0 too */
+
+    *report = nothing;
+    report->status = refusal(device, &lent);
+    if (report->status != 0)
+        return report->status;
+    for (uint32_t looked = 0; looked < IND_RINGS; looked++) {
+        uint32_t number = (device->marker + looked) % IND_RINGS;
+        struct ind_command command;
+        if (ready(device, number, &lent, &command)) {
+            serve(device, number, &lent, &command, report);
+            return IND_SERVED;
+        }
+    }
+    report->status = IND_IDLE;
+    return IND_IDLE;
+}
