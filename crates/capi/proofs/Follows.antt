@@ -9,11 +9,12 @@ use Rattle.device.specs.Turn.{Call, unchanged, finished, servedOf, turnOf}
 use Rattle.device.specs.Answer.{answerNumber}
 use Rattle.device.proofs.Answers.{refusal-not-0}
 use Rattle.device.proofs.Turns.{turn-cases}
-use Rattle.capi.specs.Image.{encode}
+use Rattle.capi.specs.Image.{encode, imageLength}
 use Rattle.capi.specs.Calls.{isServed, imageAfter, calledOf, turnCall}
 use Rattle.capi.specs.Follows.{followed, TurnFollows}
 use Rattle.capi.proofs.Sizes.{encode-length}
 use Rattle.capi.proofs.Inverse.{decode-encode}
+use Rattle.capi.specs.Report.{reportLength}
 
 -- the image after a turn is that of the device after it
 turn-kept : (d : Device) (call : Call)
@@ -26,4 +27,4 @@ turn-kept d call =
 pub turn-follows : TurnFollows
 unfolding turnCall calledOf followed either
 turn-follows d formed report call six =
-    rw (eq-eqb (length (encode d)) 372 (encode-length d formed), eq-eqb (length report) 24 six, decode-encode d formed, turn-kept d call)
+    rw (eq-eqb (length (encode d)) imageLength (encode-length d formed), eq-eqb (length report) reportLength six, decode-encode d formed, turn-kept d call)

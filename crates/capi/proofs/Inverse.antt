@@ -13,7 +13,7 @@ use Rattle.words.specs.Choice.{either}
 use Rattle.command.specs.Frame.{strideOf}
 use Rattle.state.specs.declared.device.Ring.{Ring}
 use Rattle.state.specs.Device.{emptyWindow, freshRing, ringOf}
-use Rattle.capi.specs.Image.{wordIn, wordsIn, heldOf, baseOf, formatOf, ringWords, ringsWords, wordsOf, encode, frameOf, windowAt, ringAt, decode}
+use Rattle.capi.specs.Image.{wordIn, wordsIn, heldOf, baseOf, formatOf, ringWords, ringsWords, wordsOf, encode, frameOf, windowAt, ringAt, decode, imageLength, imageWords, markerAt, slotsAt}
 use Rattle.capi.specs.Inverse.{Normal, NormalFrame, held, unset, DecodeEncode, EncodeDecode}
 use Rattle.capi.proofs.Sizes.{words-length}
 use Rattle.capi.proofs.WordBytes.{word-in-bytes, words-in-bytes, words-in-append, bytes-of-words-in}
@@ -50,8 +50,8 @@ unfolding decode encode wordsOf ringsWords ringWords ringOf
 decode-encode d formed =
     let size = words-length d (formed .shaped .slots) in
     let row = words-in-bytes (wordsOf d) (formed .fit) in
-    let slots : wordsIn (encode d) 28 64 ≡ d .slots = row 28 64 (omega arith) ∙ take-at (d .slots) (d .marker ∷ []) 64 (formed .shaped .slots) in
-    let marker : wordIn (encode d) 92 ≡ d .marker = word-in-bytes (wordsOf d) 92 (omega arith) (formed .fit 92) ∙ getD-at (d .slots) (d .marker) [] 0 64 (formed .shaped .slots) in
+    let slots : wordsIn (encode d) slotsAt 64 ≡ d .slots = row slotsAt 64 (omega arith) ∙ take-at (d .slots) (d .marker ∷ []) 64 (formed .shaped .slots) in
+    let marker : wordIn (encode d) markerAt ≡ d .marker = word-in-bytes (wordsOf d) markerAt (omega arith) (formed .fit markerAt) ∙ getD-at (d .slots) (d .marker) [] 0 64 (formed .shaped .slots) in
     rw (
       ring-back (encode d) 0 (ringOf d 0) (row 0 7 (omega arith)),
       ring-back (encode d) 7 (ringOf d 1) (row 7 7 (omega arith)),
@@ -78,21 +78,21 @@ ring-words-in image k normal = rw (add-zero k, frame-words normal)
 joined : (image : List ℕ) (k n : ℕ) {xs ys : List ℕ} → xs ≡ wordsIn image 0 k → ys ≡ wordsIn image k n → xs ++ ys ≡ wordsIn image 0 (k + n)
 joined image k n first second = rw (first, second) (rw (zero-add k) at (words-in-append image 0 k n))
 
-last-word : (image : List ℕ) → wordIn image 92 ∷ [] ≡ wordsIn image 92 1
+last-word : (image : List ℕ) → wordIn image markerAt ∷ [] ≡ wordsIn image markerAt 1
 unfolding wordsIn
 last-word image = refl
 
-all-words : (image : List ℕ) → Normal image → wordsOf (decode image) ≡ wordsIn image 0 93
+all-words : (image : List ℕ) → Normal image → wordsOf (decode image) ≡ wordsIn image 0 imageWords
 unfolding wordsOf ringsWords decode ringOf
 all-words image normal =
     let r0 = ring-words-in image 0 (normal .frames 0 (omega arith)) in
     let r1 = ring-words-in image 7 (normal .frames 1 (omega arith)) in
     let r2 = ring-words-in image 14 (normal .frames 2 (omega arith)) in
     let r3 = ring-words-in image 21 (normal .frames 3 (omega arith)) in
-    joined image 92 1 (joined image 28 64 (joined image 21 7 (joined image 14 7 (joined image 7 7 r0 r1) r2) r3) refl) (last-word image)
+    joined image markerAt 1 (joined image slotsAt 64 (joined image 21 7 (joined image 14 7 (joined image 7 7 r0 r1) r2) r3) refl) (last-word image)
 
 pub encode-decode : EncodeDecode
 unfolding encode
 encode-decode image normal =
-    rw (all-words image normal, bytes-of-words-in image (normal .bytes) 93 (omega (arith, normal .long)))
-    (take-all 372 image (omega (arith, normal .long)))
+    rw (all-words image normal, bytes-of-words-in image (normal .bytes) imageWords (omega (arith, normal .long)))
+    (take-all imageLength image (omega (arith, normal .long)))

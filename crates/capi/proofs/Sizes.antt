@@ -4,15 +4,15 @@ use mathlib.Core.Path.{_≡_, refl}
 use native.Mathlib.Omega.{arith}
 use lib.ListN.{length, length-append}
 use Rattle.state.specs.declared.device.Device.{Device}
-use Rattle.capi.specs.Image.{ringWords, ringsWords, wordsOf, encode}
+use Rattle.capi.specs.Image.{ringWords, ringsWords, wordsOf, encode, imageWords, slotsAt}
 use Rattle.capi.specs.Inverse.{EncodeLength}
 use Rattle.capi.proofs.WordBytes.{bytes-length}
 
-pub rings-length : (d : Device) → length (ringsWords d) ≡ 28
+pub rings-length : (d : Device) → length (ringsWords d) ≡ slotsAt
 unfolding ringsWords ringWords
 rings-length d = refl
 
-pub words-length : (d : Device) → length (d .slots) ≡ 64 → length (wordsOf d) ≡ 93
+pub words-length : (d : Device) → length (d .slots) ≡ 64 → length (wordsOf d) ≡ imageWords
 unfolding wordsOf
 words-length d full = simp length-append (omega (arith, rings-length d))
 

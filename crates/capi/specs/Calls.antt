@@ -1,5 +1,5 @@
 -- What the two calls leave in the bytes that they are lent, and what they answer.
-use Prim.Native.Nat.{ℕ}
+use Prim.Native.Nat.{ℕ, _*_}
 use mathlib.Core.Path.{_≡_}
 use mathlib.Core.Bool.{Bool}
 use mathlib.Core.List.{List}
@@ -12,8 +12,8 @@ use Rattle.device.specs.declared.turn.Answer.{Answer}
 use Rattle.device.specs.Fresh.{freshOf}
 use Rattle.device.specs.Answer.{answerNumber, makingNumber}
 use Rattle.device.specs.Turn.{Call, TurnEnd, turnOf}
-use Rattle.capi.specs.Image.{encode, decode, windowAt}
-use Rattle.capi.specs.Report.{reportBytes}
+use Rattle.capi.specs.Image.{imageLength, encode, decode, windowAt}
+use Rattle.capi.specs.Report.{reportLength, reportBytes}
 
 -- an image and an answer
 pub record Freshened : Type 0 where
@@ -25,15 +25,19 @@ pub record Freshens (i : List ℕ) (r : ℕ) (f : Freshened) : Type 0 where
   pub image : i ≡ f .image
   pub answer : r ≡ f .answer
 
--- a fresh device of four windows, eight words
+-- four windows of two words
+abbrev pub windowsLength : ℕ
+windowsLength = 4 * 8
+
+-- a fresh device of four windows
 abbrev pub freshFor : List ℕ → ℕ → Fresh
 freshFor windows memory = freshOf memory (windowAt windows 0) (windowAt windows 2) (windowAt windows 4) (windowAt windows 6)
 
--- the image of a fresh device; 201 for an image that is not 372 bytes, else 203 for windows that are not 32
+-- the image of a fresh device; 201 for an image of the wrong length, else 203 for windows of the wrong length
 unfoldable pub freshCall : List ℕ → List ℕ → ℕ → Freshened
 freshCall image windows memory =
-    either (eqb (length image) 372)
-    (either (eqb (length windows) 32)
+    either (eqb (length image) imageLength)
+    (either (eqb (length windows) windowsLength)
     (record { image = encode (freshFor windows memory .device); answer = makingNumber (freshFor windows memory .answer) })
     (record { image = image; answer = 203 }))
     (record { image = image; answer = 201 })
@@ -77,11 +81,11 @@ unfoldable pub untouched : List ℕ → List ℕ → Call → ℕ → Called
 untouched image report call answer =
     record { image = image; memory = call .memory; pipe = call .pipe; report = report; answer = answer }
 
--- one turn of the image's device; 201 for an image that is not 372 bytes, else 202 for a report that is not 24
+-- one turn of the image's device; 201 for an image of the wrong length, else 202 for a report of the wrong length
 unfoldable pub turnCall : List ℕ → List ℕ → Call → Called
 turnCall image report call =
-    either (eqb (length image) 372)
-    (either (eqb (length report) 24)
+    either (eqb (length image) imageLength)
+    (either (eqb (length report) reportLength)
     (calledOf image (turnOf (decode image) call))
     (untouched image report call 202))
     (untouched image report call 201)

@@ -7,7 +7,7 @@ use Rattle.state.specs.declared.device.Device.{Device}
 use Rattle.device.specs.Answer.{answerNumber}
 use Rattle.device.specs.Turn.{Call, TurnEnd, ringIn, turnOf}
 use Rattle.capi.specs.Image.{encode}
-use Rattle.capi.specs.Report.{reportBytes}
+use Rattle.capi.specs.Report.{reportLength, reportBytes}
 use Rattle.capi.specs.Calls.{Called, freshFor, turnCall}
 use Rattle.capi.specs.Inverse.{OfBytes, Formed}
 
@@ -23,7 +23,7 @@ followed a = record {
 
 -- served or not, a call over the image of a device leaves the image of the device that its turn leaves
 abbrev pub FollowsFrom : Device → Type 0
-FollowsFrom d = (report : List ℕ) (call : Call) → length report ≡ 24 → turnCall (encode d) report call ≡ followed (turnOf d call)
+FollowsFrom d = (report : List ℕ) (call : Call) → length report ≡ reportLength → turnCall (encode d) report call ≡ followed (turnOf d call)
 
 -- of every formed device
 abbrev pub TurnFollows : Type 0

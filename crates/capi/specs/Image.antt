@@ -1,4 +1,4 @@
--- The image of a device: 93 little-endian words. Each ring has seven, then come the 64 slots and the marker.
+-- The image of a device: little-endian words. Each ring has seven, then come the 64 slots and the marker.
 use Prim.Native.Nat.{ℕ, zero, suc, _+_, _*_}
 use mathlib.Core.List.{List, [], _∷_, _++_}
 use lib.Dec.{eqb}
@@ -12,6 +12,19 @@ use Rattle.state.specs.declared.device.Window.{Window}
 use Rattle.state.specs.declared.device.Ring.{Ring}
 use Rattle.state.specs.declared.device.Device.{Device}
 use Rattle.state.specs.Device.{deviceOf, ringOf}
+
+-- the words where the slots and the marker stand, and how many words and bytes there are
+abbrev pub slotsAt : ℕ
+slotsAt = 4 * 7
+
+abbrev pub markerAt : ℕ
+markerAt = slotsAt + 64
+
+abbrev pub imageWords : ℕ
+imageWords = markerAt + 1
+
+abbrev pub imageLength : ℕ
+imageLength = 4 * imageWords
 
 -- the bytes of words, the lowest byte of each first
 unfoldable pub bytesOf : List ℕ → List ℕ
@@ -51,7 +64,7 @@ ringWords r =
 unfoldable pub ringsWords : Device → List ℕ
 ringsWords d = ringWords (ringOf d 0) ++ ringWords (ringOf d 1) ++ ringWords (ringOf d 2) ++ ringWords (ringOf d 3)
 
--- a device's 93 words
+-- a device's words
 unfoldable pub wordsOf : Device → List ℕ
 wordsOf d = ringsWords d ++ d .slots ++ (d .marker ∷ [])
 
@@ -78,4 +91,4 @@ ringAt image k = record {
 -- the device of an image
 unfoldable pub decode : List ℕ → Device
 decode image =
-    deviceOf (ringAt image 0 ∷ ringAt image 7 ∷ ringAt image 14 ∷ ringAt image 21 ∷ []) (wordsIn image 28 64) (wordIn image 92)
+    deviceOf (ringAt image 0 ∷ ringAt image 7 ∷ ringAt image 14 ∷ ringAt image 21 ∷ []) (wordsIn image slotsAt 64) (wordIn image markerAt)

@@ -5,13 +5,13 @@ use mathlib.Core.List.{List}
 use lib.ListN.{length, getD}
 use Rattle.state.specs.declared.device.Device.{Device}
 use Rattle.state.specs.Device.{Shaped}
-use Rattle.capi.specs.Image.{wordIn, wordsOf, encode, decode}
+use Rattle.capi.specs.Image.{imageLength, wordIn, wordsOf, encode, decode}
 
 -- lent bytes are bytes
 abbrev pub OfBytes : List ℕ → Type 0
 OfBytes bytes = (i : ℕ) → getD bytes i 0 < 2 ^ 8
 
--- four rings, 64 slots, and each of its 93 words below 2^32: every device has this by its type, see `of_every_device`
+-- four rings, 64 slots, and each of its words below 2^32: every device has this by its type, see `of_every_device`
 pub record Formed (d : Device) : Type 0 where
   pub shaped : Shaped d
   pub fit : (k : ℕ) → getD (wordsOf d) k 0 < 2 ^ 32
@@ -21,16 +21,16 @@ pub data NormalFrame : ℕ → ℕ → ℕ → ℕ → Type 0 where
   held : {base stride format : ℕ} → NormalFrame 1 base stride format
   unset : NormalFrame 0 0 0 0
 
--- an image of 372 bytes, with each ring's frame in normal form
+-- an image of the right length, with each ring's frame in normal form
 pub record Normal (image : List ℕ) : Type 0 where
-  pub long : length image ≡ 372
+  pub long : length image ≡ imageLength
   pub bytes : OfBytes image
   pub frames : (q : ℕ) → q < 4
       → NormalFrame (wordIn image (7 * q + 3)) (wordIn image (7 * q + 4)) (wordIn image (7 * q + 5)) (wordIn image (7 * q + 6))
 
--- every image has 372 bytes
+-- every image has the right length
 abbrev pub EncodeLength : Type 0
-EncodeLength = (d : Device) → Formed d → length (encode d) ≡ 372
+EncodeLength = (d : Device) → Formed d → length (encode d) ≡ imageLength
 
 -- a device put into an image and read back is the same
 abbrev pub DecodeEncode : Type 0

@@ -1,10 +1,14 @@
--- The report of a turn: six little-endian words.
-use Prim.Native.Nat.{ℕ}
+-- The report of a turn: little-endian words.
+use Prim.Native.Nat.{ℕ, _*_}
 use mathlib.Core.Bool.{cond}
 use mathlib.Core.List.{List, [], _∷_}
 use Rattle.device.specs.declared.turn.Answer.{Answer}
 use Rattle.device.specs.Answer.{answerNumber, valuesOf}
 use Rattle.capi.specs.Image.{bytesOf}
+
+-- six words
+abbrev pub reportLength : ℕ
+reportLength = 4 * 6
 
 -- the answer's number, then the ring, outcome, fence, words read and IRQ that are reported
 unfoldable pub reportWords : Answer → List ℕ

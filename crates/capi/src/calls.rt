@@ -2,6 +2,7 @@
 ghost use mathlib.Core.Path.{_≡_};
 ghost use lib.ListN.{length};
 ghost use Rattle.device.specs.Turn.{callOf};
+ghost use Rattle.capi.specs.Image.{imageLength};
 ghost use Rattle.capi.specs.Calls.{isServed, imageAfter, freshCall, Freshens, turnCall, Leaves};
 use crate::image::IMAGE_BYTES;
 use crate::image::device_in;
@@ -23,7 +24,7 @@ pub const WRONG_REPORT: u32 = 202;
 
 pub const WRONG_WINDOWS: u32 = 203;
 
-const WINDOWS_BYTES: usize = 32;
+pub const WINDOWS_BYTES: usize = 4 * 8;
 
 // `memory` is the memory's length.
 pub fn fresh_call(image: &mut [u8], windows: &[u8], memory: usize) -> u32
@@ -60,7 +61,7 @@ fn is_served(answer: Answer) -> bool
 
 // An image that no command changed keeps its bytes, in normal form or not.
 fn put_if_served(image: &mut [u8], d: Device, answer: Answer)
-    requires { ⌜ length (now image) ≡ 372 ⌝ }
+    requires { ⌜ length (now image) ≡ imageLength ⌝ }
     ensures { λ _. ⌜ now (image .exit) ≡ imageAfter (now (image .entry)) d answer ⌝ }
 {
     if is_served(answer) {

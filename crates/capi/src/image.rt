@@ -3,7 +3,7 @@ ghost use mathlib.Core.Path.{_≡_};
 ghost use Prim.Native.Nat.{_+_, _*_, _≤_};
 ghost use lib.ListN.{length};
 ghost use lib.Seq.{sets};
-ghost use Rattle.capi.specs.Image.{bytesOf, heldOf, baseOf, formatOf, ringWords, ringsWords, frameOf, ringAt, wordsIn, encode, decode};
+ghost use Rattle.capi.specs.Image.{slotsAt, imageLength, bytesOf, heldOf, baseOf, formatOf, ringWords, ringsWords, frameOf, ringAt, wordsIn, encode, decode};
 use crate::lent::put_words;
 use crate::lent::window_at;
 use crate::lent::word_in;
@@ -12,7 +12,12 @@ use command::frame::stride_of;
 use state::device::Device;
 use state::device::Ring;
 
-pub const IMAGE_BYTES: usize = 372;
+// The words where the slots and the marker stand: after four rings of seven words, and after the 64 slots.
+const SLOTS_AT: usize = 4 * 7;
+
+const MARKER_AT: usize = SLOTS_AT + 64;
+
+pub const IMAGE_BYTES: usize = 4 * (MARKER_AT + 1);
 
 fn held_of(frame: Frame) -> u32
     ensures { λ r. ⌜ r ≡ heldOf frame ⌝ }
@@ -78,7 +83,7 @@ fn put_ring(image: &mut [u8], k: usize, ring: Ring)
 }
 
 fn put_rings(image: &mut [u8], d: Device)
-    requires { ⌜ 112 ≤ length (now image) ⌝ }
+    requires { ⌜ 4 * slotsAt ≤ length (now image) ⌝ }
     ensures { λ _. ⌜ now (image .exit) ≡ sets (now (image .entry)) 0 (bytesOf (ringsWords d)) ⌝ }
 {
     put_ring(image, 0, d.ring(0));
@@ -88,14 +93,14 @@ fn put_rings(image: &mut [u8], d: Device)
 }
 
 pub fn put_device(image: &mut [u8], d: Device)
-    requires { ⌜ length (now image) ≡ 372 ⌝ }
+    requires { ⌜ length (now image) ≡ imageLength ⌝ }
     ensures { λ _. ⌜ now (image .exit) ≡ encode d ⌝ }
 {
     put_rings(image, d);
     let slots = d.slots;
-    put_words(image, 28, &slots);
+    put_words(image, SLOTS_AT, &slots);
     let marker = [d.marker];
-    put_words(image, 92, &marker);
+    put_words(image, MARKER_AT, &marker);
 }
 
 fn frame_of(held: u32, base: u32, stride: u32, format: u32) -> Frame
@@ -129,18 +134,18 @@ fn ring_at(image: &[u8], k: usize) -> Ring
 }
 
 fn slots_of(image: &[u8]) -> [u32; 64]
-    requires { ⌜ length (now image) ≡ 372 ⌝ }
-    ensures { λ r. ⌜ r ≡ wordsIn (now (image .entry)) 28 64 ⌝ }
+    requires { ⌜ length (now image) ≡ imageLength ⌝ }
+    ensures { λ r. ⌜ r ≡ wordsIn (now (image .entry)) slotsAt 64 ⌝ }
 {
     let mut slots = [0; 64];
     for i in 0..64 {
-        slots[i] = word_in(image, 28 + i);
+        slots[i] = word_in(image, SLOTS_AT + i);
     }
     slots
 }
 
 pub fn device_in(image: &[u8]) -> Device
-    requires { ⌜ length (now image) ≡ 372 ⌝ }
+    requires { ⌜ length (now image) ≡ imageLength ⌝ }
     ensures { λ r. ⌜ r ≡ decode (now (image .entry)) ⌝ }
 {
     let rings = [
@@ -149,5 +154,5 @@ pub fn device_in(image: &[u8]) -> Device
         ring_at(image, 14),
         ring_at(image, 21),
     ];
-    Device::of(rings, slots_of(image), word_in(image, 92))
+    Device::of(rings, slots_of(image), word_in(image, MARKER_AT))
 }

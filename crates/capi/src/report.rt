@@ -6,7 +6,7 @@ use command::outcome::number;
 use device::turn::Answer;
 use state::refusal::refusal_number;
 
-pub const REPORT_BYTES: usize = 24;
+pub const REPORT_BYTES: usize = 4 * 6;
 
 fn bit(b: bool) -> u32
     ensures { λ r. ⌜ r ≡ cond b 1 0 ⌝ }

@@ -3,22 +3,23 @@ use mathlib.Core.Path.{_≡_, refl}
 use native.Mathlib.Omega.{arith}
 use denote.Ref.{now}
 use lib.ListN.{length}
-use Rattle.capi.specs.Calls.{freshCall}
+use Rattle.capi.specs.Calls.{freshCall, windowsLength}
 use Rattle.words.specs.Choice.{either}
 use borrow.Author.Tests.{eq-eqb, ne-eqb}
 use borrow.Author.Needs.{needs}
 use Rattle.capi.proofs.calls.fresh_call.Statement.{statement}
 use Rattle.capi.proofs.calls.fresh_call.Tie as tie
+use Rattle.capi.specs.Image.{imageLength}
 
 returns : tie.Need-returns
 unfolding freshCall either
 returns c = let s = c .before .before .before .args in
-    rw (ne-eqb (length (now (s .image))) 372 (λ e. omega (arith, e, c .if1 .taken))) (record { image = refl; answer = refl })
+    rw (ne-eqb (length (now (s .image))) imageLength (λ e. omega (arith, e, c .if1 .taken))) (record { image = refl; answer = refl })
 
 returns-2 : tie.Need-returns-2
 unfolding freshCall either
 returns-2 c = let s = c .before .before .before .before .args in
-    rw (eq-eqb (length (now (s .image))) 372 (omega (arith, c .before .if1 .left)), ne-eqb (length (now (s .windows))) 32 (λ e. omega (arith, e, c .if2 .taken)))
+    rw (eq-eqb (length (now (s .image))) imageLength (omega (arith, c .before .if1 .left)), ne-eqb (length (now (s .windows))) windowsLength (λ e. omega (arith, e, c .if2 .taken)))
     (record { image = refl; answer = refl })
 
 window-at-requires : tie.Need-window-at-requires
@@ -48,8 +49,8 @@ same-length c = search needs
 returns-3 : tie.Need-returns-3
 unfolding freshCall either
 returns-3 c = let s = c .before .before .before .before .before .before .before .before .before .before .before .before .before .before .before .args in
-    let image : length (now (s .image)) ≡ 372 = omega (arith, c .before .before .before .before .before .before .before .before .before .before .before .before .if1 .left) in
-    let windows : length (now (s .windows)) ≡ 32 = omega (arith, c .before .before .before .before .before .before .before .before .before .before .before .if2 .left) in
+    let image : length (now (s .image)) ≡ imageLength = omega (arith, c .before .before .before .before .before .before .before .before .before .before .before .before .if1 .left) in
+    let windows : length (now (s .windows)) ≡ windowsLength = omega (arith, c .before .before .before .before .before .before .before .before .before .before .before .if2 .left) in
     rw (
       eq-eqb _ _ image,
       eq-eqb _ _ windows,

@@ -9,12 +9,13 @@ use Rattle.device.specs.Answer.{answerNumber}
 use Rattle.capi.proofs.WordBytes.{words-whole}
 use native.Mathlib.Omega.{arith}
 use Rattle.capi.specs.Calls.{turnCall, untouched, calledOf}
-use Rattle.capi.specs.Report.{reportWords, reportBytes}
+use Rattle.capi.specs.Report.{reportWords, reportBytes, reportLength}
 use Rattle.words.specs.Choice.{either}
 use borrow.Author.Tests.{eq-eqb, ne-eqb}
 use borrow.Author.Needs.{needs}
 use Rattle.capi.proofs.calls.turn_call.Statement.{statement}
 use Rattle.capi.proofs.calls.turn_call.Tie as tie
+use Rattle.capi.specs.Image.{imageLength}
 
 -- a report's first word is the answer's
 first-word : (answer : Answer) (words : List ℕ) → words ≡ reportWords answer → getD words 0 0 ≡ answerNumber answer
@@ -24,13 +25,13 @@ first-word answer words e = rw e
 returns : tie.Need-returns
 unfolding turnCall untouched either
 returns c = let s = c .before .before .before .before .before .before .before .before .before .before .args in
-    rw (ne-eqb (length (now (s .image))) 372 (λ e. omega (arith, e, c .if1 .taken)))
+    rw (ne-eqb (length (now (s .image))) imageLength (λ e. omega (arith, e, c .if1 .taken)))
     (record { image = refl; memory = refl; pipe = refl; report = refl; answer = refl })
 
 returns-2 : tie.Need-returns-2
 unfolding turnCall untouched either
 returns-2 c = let s = c .before .before .before .before .before .before .before .before .before .before .before .args in
-    rw (eq-eqb (length (now (s .image))) 372 (omega (arith, c .before .if1 .left)), ne-eqb (length (now (s .report))) 24 (λ e. omega (arith, e, c .if2 .taken)))
+    rw (eq-eqb (length (now (s .image))) imageLength (omega (arith, c .before .if1 .left)), ne-eqb (length (now (s .report))) reportLength (λ e. omega (arith, e, c .if2 .taken)))
     (record { image = refl; memory = refl; pipe = refl; report = refl; answer = refl })
 
 device-in-requires : tie.Need-device-in-requires
@@ -69,8 +70,8 @@ same-length-4 c = search needs
 returns-3 : tie.Need-returns-3
 unfolding turnCall calledOf reportBytes either
 returns-3 c = let s = c .before .before .before .before .before .before .before .before .before .before .before .before .before .before .before .before .before .before .before .before .before .before .before .before .before .before .before .before .before .before .before .args in
-    let image : length (now (s .image)) ≡ 372 = omega (arith, c .before .before .before .before .before .before .before .before .before .before .before .before .before .before .before .before .before .before .before .before .before .if1 .left) in
-    let report : length (now (s .report)) ≡ 24 = omega (arith, c .before .before .before .before .before .before .before .before .before .before .before .before .before .before .before .before .before .before .before .before .if2 .left) in
+    let image : length (now (s .image)) ≡ imageLength = omega (arith, c .before .before .before .before .before .before .before .before .before .before .before .before .before .before .before .before .before .before .before .before .before .if1 .left) in
+    let report : length (now (s .report)) ≡ reportLength = omega (arith, c .before .before .before .before .before .before .before .before .before .before .before .before .before .before .before .before .before .before .before .before .if2 .left) in
     let turned = c .before .before .before .before .before .before .before .before .before .before .before .before .before .before .before .turn .ensures in
     let words = c .before .before .before .before .before .report-words in
     let six = slice-aggregate-put-words (c .before .before .before) in

@@ -7,7 +7,7 @@ use Rattle.capi.proofs.WordBytes.{words-then, words-whole}
 use Rattle.capi.proofs.Sizes.{rings-length}
 use native.Mathlib.Omega.{arith}
 use denote.Ref.{now}
-use Rattle.capi.specs.Image.{ringsWords, wordsOf, encode}
+use Rattle.capi.specs.Image.{ringsWords, wordsOf, encode, imageWords, markerAt, slotsAt}
 use borrow.Author.Needs.{needs}
 use Rattle.capi.proofs.image.put_device.Statement.{statement}
 use Rattle.capi.proofs.image.put_device.Tie as tie
@@ -36,10 +36,10 @@ returns c = let m = now (c .before .before .before .before .before .before .befo
     let d = c .before .before .before .before .before .before .before .before .before .before .before .before .before .before .before .before .args .d in
     let full : 64 ≡ length (d .slots) = slice-aggregate-put-words (c .before .before .before .before .before .before .before .before) in
     let long = rings-length d in
-    let next : 92 ≡ 0 + length (ringsWords d ++ d .slots) = simp length-append (omega arith) in
-    let size : length (ringsWords d ++ d .slots ++ (d .marker ∷ [])) ≡ 93 = simp length-append (omega arith) in
-    let first = words-then m 0 (ringsWords d) 28 (d .slots) (omega arith) (c .before .before .before .before .before .before .before .before .before .before .before .before .before .put-rings .ensures) (c .before .before .before .before .before .before .before .put-words .ensures) in
-    words-whole m (wordsOf d) (omega (arith, size, c .before .before .before .before .before .before .before .before .before .before .before .before .before .before .before .before .pre)) (words-then m 0 (ringsWords d ++ d .slots) 92 (d .marker ∷ []) next first (c .before .before .put-words2 .ensures))
+    let next : markerAt ≡ 0 + length (ringsWords d ++ d .slots) = simp length-append (omega arith) in
+    let size : length (ringsWords d ++ d .slots ++ (d .marker ∷ [])) ≡ imageWords = simp length-append (omega arith) in
+    let first = words-then m 0 (ringsWords d) slotsAt (d .slots) (omega arith) (c .before .before .before .before .before .before .before .before .before .before .before .before .before .put-rings .ensures) (c .before .before .before .before .before .before .before .put-words .ensures) in
+    words-whole m (wordsOf d) (omega (arith, size, c .before .before .before .before .before .before .before .before .before .before .before .before .before .before .before .before .pre)) (words-then m 0 (ringsWords d ++ d .slots) markerAt (d .marker ∷ []) next first (c .before .before .put-words2 .ensures))
 
 pub put-device-spec : {M : Type 1} → statement M
 put-device-spec =

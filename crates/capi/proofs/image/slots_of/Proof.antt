@@ -5,12 +5,12 @@ use mathlib.Core.Path.{_≡_, refl, _∙_, sym}
 use Prim.Native.Nat.{_≤_, _-_}
 use native.Mathlib.Omega.{arith}
 use lib.ListN.{length, take, length-set}
-use Rattle.capi.specs.Image.{wordsIn}
+use Rattle.capi.specs.Image.{wordsIn, slotsAt}
 use Rattle.capi.proofs.image.slots_of.Statement.{statement}
 use Rattle.capi.proofs.image.slots_of.Tie as tie
 
 abbrev Inv-loop : tie.InvT-loop
-Inv-loop image slots₀ i₀ slots i = (i ≤ 64) × (length slots ≡ 64) × (take i slots ≡ wordsIn image 28 i)
+Inv-loop image slots₀ i₀ slots i = (i ≤ 64) × (length slots ≡ 64) × (take i slots ≡ wordsIn image slotsAt i)
 
 abbrev μ-loop : tie.MeasureT-loop
 μ-loop image slots₀ i₀ slots i = 64 - i
