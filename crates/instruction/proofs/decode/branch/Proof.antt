@@ -13,7 +13,7 @@ branch-row-requires : tie.Need-branch-row-requires
 branch-row-requires c κs = search needs
 
 returns : tie.Need-returns
-returns c = cc
+returns c = rw (c .branch-row .ensures, c .before .imm-b .ensures, c .before .before .funct3 .ensures)
 
 pub branch-spec : {M : Type 1} → statement M
 branch-spec = tie.close (tie.spec funct3-requires imm-b-requires branch-row-requires returns)

@@ -18,7 +18,7 @@ rs2-requires c κs = search needs
 
 returns : tie.Need-returns
 unfolding decoded
-returns c = cc
+returns c = rw (c .rs2 .ensures, c .before .rs1 .ensures, c .before .before .rd .ensures, c .before .before .before .operation .ensures)
 
 pub decode-spec : {M : Type 1} → statement M
 decode-spec = tie.close (tie.spec operation-requires rd-requires rs1-requires rs2-requires returns)

@@ -19,7 +19,7 @@ immediate-row-requires : tie.Need-immediate-row-requires
 immediate-row-requires c κs = search needs
 
 returns : tie.Need-returns
-returns c = cc
+returns c = rw (c .immediate-row .ensures, c .before .imm-i .ensures, c .before .before .rs2 .ensures, c .before .before .before .funct7 .ensures, c .before .before .before .before .funct3 .ensures)
 
 pub immediate-spec : {M : Type 1} → statement M
 immediate-spec =

@@ -13,7 +13,7 @@ load-row-requires : tie.Need-load-row-requires
 load-row-requires c κs = search needs
 
 returns : tie.Need-returns
-returns c = cc
+returns c = rw (c .load-row .ensures, c .before .imm-i .ensures, c .before .before .funct3 .ensures)
 
 pub load-spec : {M : Type 1} → statement M
 load-spec = tie.close (tie.spec funct3-requires imm-i-requires load-row-requires returns)

@@ -16,7 +16,7 @@ scalar-row-requires : tie.Need-scalar-row-requires
 scalar-row-requires c κs = search needs
 
 returns : tie.Need-returns
-returns c = cc
+returns c = rw (c .scalar-row .ensures, c .before .rs2 .ensures, c .before .before .funct3 .ensures, c .before .before .before .funct7 .ensures)
 
 pub scalar-spec : {M : Type 1} → statement M
 scalar-spec =

@@ -13,7 +13,7 @@ store-row-requires : tie.Need-store-row-requires
 store-row-requires c κs = search needs
 
 returns : tie.Need-returns
-returns c = cc
+returns c = rw (c .store-row .ensures, c .before .imm-s .ensures, c .before .before .funct3 .ensures)
 
 pub store-spec : {M : Type 1} → statement M
 store-spec = tie.close (tie.spec funct3-requires imm-s-requires store-row-requires returns)

@@ -30,7 +30,7 @@ if-unused-requires-2 c κs = search needs
 
 returns : tie.Need-returns
 unfolding transferOf
-returns c = cc
+returns c = rw (c .if-unused2 .ensures, c .before .if-unused .ensures, c .before .before .rs2 .ensures, c .before .before .before .funct7 .ensures, c .before .before .before .before .transfer-row .ensures, c .before .before .before .before .before .rs1 .ensures, c .before .before .before .before .before .before .rd .ensures, c .before .before .before .before .before .before .before .funct3 .ensures)
 
 pub transfer-spec : {M : Type 1} → statement M
 transfer-spec =

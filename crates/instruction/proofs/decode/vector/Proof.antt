@@ -30,7 +30,7 @@ if-unused-requires c κs = search needs
 
 returns : tie.Need-returns
 unfolding vectorOf
-returns c = cc
+returns c = rw (c .if-unused .ensures, c .before .bit25 .ensures, c .before .before .vector-row .ensures, c .before .before .before .rs2 .ensures, c .before .before .before .before .rs1 .ensures, c .before .before .before .before .before .rd .ensures, c .before .before .before .before .before .before .funct3 .ensures, c .before .before .before .before .before .before .before .funct6 .ensures)
 
 pub vector-spec : {M : Type 1} → statement M
 vector-spec =

@@ -27,7 +27,7 @@ if-unused-requires-2 c κs = search needs
 
 returns : tie.Need-returns
 unfolding vldOf
-returns c = cc
+returns c = rw (c .if-unused2 .ensures, c .before .if-unused .ensures, c .before .before .rs2 .ensures, c .before .before .before .funct7 .ensures, c .before .before .before .before .vld-row .ensures, c .before .before .before .before .before .rd .ensures, c .before .before .before .before .before .before .funct3 .ensures)
 
 pub vld-spec : {M : Type 1} → statement M
 vld-spec =

@@ -18,7 +18,7 @@ lanes-requires-4 c κs = search needs
 
 returns : tie.Need-returns
 unfolding lanesOfQuads
-returns c = cc
+returns c = rw (c .lanes4 .ensures, c .before .lanes3 .ensures, c .before .before .lanes2 .ensures, c .before .before .before .lanes .ensures)
 
 pub lanes-of-quads-spec : {M : Type 1} → statement M
 lanes-of-quads-spec =

@@ -21,7 +21,7 @@ stopped-requires c κs = search needs
 
 returns : tie.Need-returns
 unfolding branched lands
-returns c = rw (← c .before .before .before .add .ensures, ← c .before .before .both .ensures, c .before .if1 .taken) (cc)
+returns c = rw (← c .before .before .before .add .ensures, ← c .before .before .both .ensures, c .before .if1 .taken, c .move-to .ensures)
 
 returns-2 : tie.Need-returns-2
 unfolding branched lands

@@ -9,7 +9,7 @@ advance-requires c κs = search needs
 
 returns : tie.Need-returns
 unfolding endsThread
-returns c = cc
+returns c = rw (c .advance .ensures)
 
 pub end-spec : {M : Type 1} → statement M
 end-spec = tie.close (tie.spec advance-requires returns)

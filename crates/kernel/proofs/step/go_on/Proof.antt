@@ -9,7 +9,7 @@ advance-requires c κs = search needs
 
 returns : tie.Need-returns
 unfolding goesOn
-returns c = cc
+returns c = rw (c .advance .ensures)
 
 pub go-on-spec : {M : Type 1} → statement M
 go-on-spec = tie.close (tie.spec advance-requires returns)

@@ -12,7 +12,7 @@ use Rattle.memory.proofs.access.store.Tie as tie
 
 inside : (c : tie.After-enum-told) → let a = c .before .before .before .before .before .args in
     reachOf (length (now (a .window))) (a .address) (bytesOf (a .width)) ≡ Inside
-inside c = cc
+inside c = rw (← c .before .before .before .bytes-of .ensures, ← c .before .before .test .ensures) (c .enum-told .given .1)
 
 bytes-of-requires : tie.Need-bytes-of-requires
 bytes-of-requires c κs = search needs
@@ -42,7 +42,7 @@ returns-2 : tie.Need-returns-2
 unfolding storeOf ifInside
 returns-2 c =
     let a = c .before .before .before .before .before .args in
-    let out : reachOf (length (now (a .window))) (a .address) (bytesOf (a .width)) ≡ Outside = cc in
+    let out : reachOf (length (now (a .window))) (a .address) (bytesOf (a .width)) ≡ Outside = rw (← c .before .before .before .bytes-of .ensures, ← c .before .before .test .ensures) (c .enum-told2 .given .1) in
     (sym out, rw out)
 
 pub store-spec : {M : Type 1} → statement M

@@ -49,7 +49,7 @@ word-requires c κs = search needs
 
 returns-2 : tie.Need-returns-2
 unfolding wordAt
-returns-2 c = cc
+returns-2 c = rw (c .word .ensures, c .before .peek-byte3 .ensures, c .before .before .peek-byte2 .ensures, c .before .before .before .peek-byte .ensures)
 
 pub peek-word-spec : {M : Type 1} → statement M
 peek-word-spec =

@@ -13,7 +13,7 @@ use Rattle.memory.proofs.quad.load_quad.Tie as tie
 
 inside : (c : tie.After-enum-told) → let a = c .before .before .before .before .args in
     reachOf (length (now (a .window))) (a .address) 16 ≡ Inside
-inside c = cc
+inside c = rw (← c .before .before .test .ensures) (c .enum-told .given .1)
 
 test-requires : tie.Need-test-requires
 test-requires c κs = search needs
@@ -35,7 +35,7 @@ returns-2 : tie.Need-returns-2
 unfolding loadQuadOf ifInside
 returns-2 c =
     let a = c .before .before .before .before .args in
-    let out : reachOf (length (now (a .window))) (a .address) 16 ≡ Outside = cc in
+    let out : reachOf (length (now (a .window))) (a .address) 16 ≡ Outside = rw (← c .before .before .test .ensures) (c .enum-told2 .given .1) in
     rw out
 
 pub load-quad-spec : {M : Type 1} → statement M

@@ -30,7 +30,7 @@ same-length c = search needs
 
 returns : tie.Need-returns
 unfolding withQuad
-returns c = cc
+returns c = rw (c .before .before .put-word4 .ensures, c .before .before .before .before .before .before .put-word3 .ensures, c .before .before .before .before .before .before .before .before .before .before .put-word2 .ensures, c .before .before .before .before .before .before .before .before .before .before .before .before .before .before .put-word .ensures)
 
 pub put-quad-spec : {M : Type 1} → statement M
 put-quad-spec =

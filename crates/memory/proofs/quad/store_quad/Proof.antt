@@ -12,7 +12,7 @@ use Rattle.memory.proofs.quad.store_quad.Tie as tie
 
 inside : (c : tie.After-enum-told) → let a = c .before .before .before .before .args in
     reachOf (length (now (a .window))) (a .address) 16 ≡ Inside
-inside c = cc
+inside c = rw (← c .before .before .test .ensures) (c .enum-told .given .1)
 
 test-requires : tie.Need-test-requires
 test-requires c κs = search needs
@@ -39,7 +39,7 @@ returns-2 : tie.Need-returns-2
 unfolding storeQuadOf ifInside
 returns-2 c =
     let a = c .before .before .before .before .args in
-    let out : reachOf (length (now (a .window))) (a .address) 16 ≡ Outside = cc in
+    let out : reachOf (length (now (a .window))) (a .address) 16 ≡ Outside = rw (← c .before .before .test .ensures) (c .enum-told2 .given .1) in
     (sym out, rw out)
 
 pub store-quad-spec : {M : Type 1} → statement M

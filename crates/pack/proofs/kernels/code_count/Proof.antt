@@ -21,7 +21,7 @@ peek-word-requires c κs = search needs
 
 returns : tie.Need-returns
 unfolding codeCount
-returns c = cc
+returns c = rw (c .peek-word .ensures, c .before .kernel-count .ensures)
 
 pub code-count-spec : {M : Type 1} → statement M
 code-count-spec =

@@ -39,7 +39,7 @@ mul-t11 c = search needs
 
 returns : tie.Need-returns
 unfolding kernelOf
-returns c = cc
+returns c = rw (c .kernel-words .ensures, c .before .first-word .ensures, c .before .before .kernel-count .ensures)
 
 pub kernel-at-spec : {M : Type 1} → statement M
 kernel-at-spec =

@@ -9,7 +9,7 @@ with-quad-requires c κs = search needs
 
 returns : tie.Need-returns
 unfolding withVector
-returns c = cc
+returns c = rw (c .with-quad .ensures)
 
 pub with-vector-spec : {M : Type 1} → statement M
 with-vector-spec = tie.close (tie.spec with-quad-requires returns)

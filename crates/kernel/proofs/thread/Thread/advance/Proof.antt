@@ -12,7 +12,7 @@ move-to-requires c κs = search needs
 
 returns : tie.Need-returns
 unfolding advanced
-returns c = cc
+returns c = rw (c .move-to .ensures, c .before .add .ensures)
 
 pub advance-spec : {M : Type 1} → statement M
 advance-spec = tie.close (tie.spec add-requires move-to-requires returns)

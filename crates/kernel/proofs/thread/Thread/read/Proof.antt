@@ -9,7 +9,7 @@ scalar-requires c κs = search needs
 
 returns : tie.Need-returns
 unfolding readOf
-returns c = cc
+returns c = rw (c .scalar .ensures)
 
 pub read-spec : {M : Type 1} → statement M
 read-spec = tie.close (tie.spec scalar-requires returns)

@@ -9,7 +9,7 @@ start-requires c κs = search needs
 
 returns : tie.Need-returns
 unfolding started
-returns c = cc
+returns c = rw (c .start .ensures)
 
 pub start-spec : {M : Type 1} → statement M
 start-spec = tie.close (tie.spec start-requires returns)

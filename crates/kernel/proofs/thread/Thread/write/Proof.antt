@@ -9,7 +9,7 @@ with-scalar-requires c κs = search needs
 
 returns : tie.Need-returns
 unfolding written
-returns c = cc
+returns c = rw (c .with-scalar .ensures)
 
 pub write-spec : {M : Type 1} → statement M
 write-spec = tie.close (tie.spec with-scalar-requires returns)

@@ -9,7 +9,7 @@ with-vector-requires c κs = search needs
 
 returns : tie.Need-returns
 unfolding writtenVector
-returns c = cc
+returns c = rw (c .with-vector .ensures)
 
 pub write-vector-spec : {M : Type 1} → statement M
 write-vector-spec = tie.close (tie.spec with-vector-requires returns)
