@@ -15,7 +15,7 @@ differing-requires c κs = search needs
 
 returns : tie.Need-returns
 unfolding wrongPayloadBit
-returns c = cc
+returns c = rw (c .differing .ensures, c .before .payload .ensures, c .before .before .row-of .ensures)
 
 pub has-wrong-payload-bit-spec : {M : Type 1} → statement M
 has-wrong-payload-bit-spec =

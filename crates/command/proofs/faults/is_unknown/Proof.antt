@@ -9,7 +9,7 @@ row-of-requires c κs = search needs
 
 returns : tie.Need-returns
 unfolding unknownOpcode
-returns c = cc
+returns c = rw (c .before .row-of .ensures)
 
 pub is-unknown-spec : {M : Type 1} → statement M
 is-unknown-spec = tie.close (tie.spec row-of-requires returns)

@@ -18,7 +18,7 @@ both-requires c κs = search needs
 
 returns : tie.Need-returns
 unfolding noSuchSlot
-returns c = cc
+returns c = rw (c .both .ensures, c .before .before .one-of .ensures, c .before .before .before .wait .ensures, c .before .before .before .before .emit .ensures)
 
 pub names-no-slot-spec : {M : Type 1} → statement M
 names-no-slot-spec =

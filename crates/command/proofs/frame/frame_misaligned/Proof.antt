@@ -15,7 +15,7 @@ one-of-requires c κs = search needs
 
 returns : tie.Need-returns
 unfolding frameMisaligned
-returns c = cc
+returns c = rw (c .one-of .ensures, c .before .not-a-multiple2 .ensures, c .before .before .not-a-multiple .ensures)
 
 pub frame-misaligned-spec : {M : Type 1} → statement M
 frame-misaligned-spec =

@@ -12,7 +12,7 @@ one-of-requires-2 c κs = search needs
 
 returns : tie.Need-returns
 unfolding frameUnfit
-returns c = cc
+returns c = rw (c .one-of2 .ensures, c .before .one-of .ensures)
 
 pub frame-unfit-spec : {M : Type 1} → statement M
 frame-unfit-spec = tie.close (tie.spec one-of-requires one-of-requires-2 returns)

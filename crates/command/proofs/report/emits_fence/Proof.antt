@@ -18,7 +18,7 @@ both-requires c κs = search needs
 
 returns : tie.Need-returns
 unfolding emits
-returns c = cc
+returns c = rw (c .both .ensures, c .before .one-of .ensures, c .before .before .emit .ensures, c .before .before .before .number .ensures)
 
 pub emits-fence-spec : {M : Type 1} → statement M
 emits-fence-spec =

@@ -18,7 +18,7 @@ both-requires c κs = search needs
 
 returns : tie.Need-returns
 unfolding interrupts
-returns c = cc
+returns c = rw (c .both .ensures, c .before .one-of .ensures, c .before .before .irq .ensures, c .before .before .before .number .ensures)
 
 pub raises-irq-spec : {M : Type 1} → statement M
 raises-irq-spec =

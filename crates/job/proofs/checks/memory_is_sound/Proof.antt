@@ -12,7 +12,7 @@ both-requires c κs = search needs
 
 returns : tie.Need-returns
 unfolding memorySound
-returns c = cc
+returns c = rw (c .both .ensures, c .before .before .is-whole .ensures)
 
 pub memory-is-sound-spec : {M : Type 1} → statement M
 memory-is-sound-spec = tie.close (tie.spec is-whole-requires both-requires returns)

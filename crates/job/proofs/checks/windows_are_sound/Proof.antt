@@ -12,7 +12,7 @@ both-requires c κs = search needs
 
 returns : tie.Need-returns
 unfolding windowsSound
-returns c = cc
+returns c = rw (c .both .ensures, c .before .before .is-whole .ensures)
 
 pub windows-are-sound-spec : {M : Type 1} → statement M
 windows-are-sound-spec = tie.close (tie.spec is-whole-requires both-requires returns)

@@ -33,10 +33,10 @@ loop-less c = omega arith
 
 loop-again : tie.Need-loop-again Inv-loop μ-loop
 unfolding allBelow
-loop-again c = (omega arith, rw add-one (cc))
+loop-again c = (omega arith, rw (add-one, c .both .ensures, c .before .lies-in-code .ensures, c .before .before .before .loop .inv .1))
 
 returns : tie.Need-returns Inv-loop μ-loop
-returns c = cc (le-antisymm (c .before .loop .inv .0) (c .loop-test .left))
+returns c = rw (c .before .loop .inv .1, le-antisymm (c .before .loop .inv .0) (c .loop-test .left))
 
 pub all-lie-in-code-spec : {M : Type 1} → statement M
 all-lie-in-code-spec =

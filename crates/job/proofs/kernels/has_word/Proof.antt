@@ -9,7 +9,7 @@ kernel-words-requires c κs = search needs
 
 returns : tie.Need-returns
 unfolding hasWord
-returns c = cc
+returns c = rw (c .kernel-words .ensures)
 
 pub has-word-spec : {M : Type 1} → statement M
 has-word-spec = tie.close (tie.spec kernel-words-requires returns)

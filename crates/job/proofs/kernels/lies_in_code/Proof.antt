@@ -21,7 +21,7 @@ add-result c = search needs
 
 returns : tie.Need-returns
 unfolding liesInCode
-returns c = cc
+returns c = rw (c .kernel-words .ensures, c .before .first-word .ensures)
 
 pub lies-in-code-spec : {M : Type 1} → statement M
 lies-in-code-spec =

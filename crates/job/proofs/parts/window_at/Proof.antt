@@ -24,7 +24,7 @@ peek-word-requires-2 c κs = search needs
 
 returns : tie.Need-returns
 unfolding windowAt
-returns c = cc
+returns c = rw (c .peek-word2 .ensures, c .before .peek-word .ensures)
 
 pub window-at-spec : {M : Type 1} → statement M
 window-at-spec =

@@ -9,7 +9,7 @@ one-of-requires c κs = search needs
 
 returns : tie.Need-returns
 unfolding outOfRange
-returns c = cc
+returns c = rw (c .one-of .ensures)
 
 pub is-out-of-range-spec : {M : Type 1} → statement M
 is-out-of-range-spec = tie.close (tie.spec one-of-requires returns)

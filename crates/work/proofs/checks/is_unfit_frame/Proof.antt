@@ -12,7 +12,7 @@ both-requires c κs = search needs
 
 returns : tie.Need-returns
 unfolding unfitFrame
-returns c = cc
+returns c = rw (c .both .ensures, c .before .frame-unfit .ensures)
 
 pub is-unfit-frame-spec : {M : Type 1} → statement M
 is-unfit-frame-spec = tie.close (tie.spec frame-unfit-requires both-requires returns)

@@ -22,7 +22,7 @@ both-requires c κs = search needs
 
 returns : tie.Need-returns
 unfolding unframed
-returns c = cc
+returns c = rw (c .both .ensures, c .before .is-rectangle .ensures, c .before .before .too-narrow .ensures, c .before .before .before .height .ensures, c .before .before .before .before .width .ensures)
 
 pub is-unframed-spec : {M : Type 1} → statement M
 is-unframed-spec =

@@ -37,7 +37,7 @@ add-result c = search needs
 
 returns : tie.Need-returns
 unfolding endOf
-returns c = chosen _ _ _ (rw (c .before .before .before .before .before .is-rectangle .ensures) at (c .before .before .before .before .if1 .taken)) (cc)
+returns c = chosen _ _ _ (rw (c .before .before .before .before .before .is-rectangle .ensures) at (c .before .before .before .before .if1 .taken)) (rw (c .rectangle-end .ensures, c .before .height .ensures, c .before .before .width .ensures, c .before .before .before .stride-of .ensures))
 
 returns-2 : tie.Need-returns-2
 unfolding endOf

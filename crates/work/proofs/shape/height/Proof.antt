@@ -12,7 +12,7 @@ cast-result c = search needs
 
 returns : tie.Need-returns
 unfolding heightOf
-returns c = cc
+returns c = rw (c .size-of .ensures)
 
 pub height-spec : {M : Type 1} → statement M
 height-spec = tie.close (tie.spec size-of-requires cast-result returns)

@@ -28,7 +28,7 @@ returns c = rw (c .enum-told .given .1)
 
 returns-2 : tie.Need-returns-2
 unfolding tooNarrow
-returns-2 c = rw (c .before .before .before .frame .given .1) (cc)
+returns-2 c = rw (c .before .before .before .frame .given .1, c .both2 .ensures, c .before .both .ensures)
 
 pub too-narrow-spec : {M : Type 1} → statement M
 too-narrow-spec =

@@ -12,7 +12,7 @@ cast-result c = search needs
 
 returns : tie.Need-returns
 unfolding widthOf
-returns c = cc
+returns c = rw (c .size-of .ensures)
 
 pub width-spec : {M : Type 1} → statement M
 width-spec = tie.close (tie.spec size-of-requires cast-result returns)

@@ -28,7 +28,7 @@ same-length : tie.Need-same-length
 same-length c = search needs
 
 returns : tie.Need-returns
-returns c = cc
+returns c = rw (c .before .before .blit .ensures, c .before .before .before .height .ensures, c .before .before .before .before .width .ensures, c .before .before .before .before .before .before .before .before .stride-of .ensures)
 
 pub blit-rect-spec : {M : Type 1} → statement M
 blit-rect-spec =

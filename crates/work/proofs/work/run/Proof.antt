@@ -15,7 +15,7 @@ same-length c = search needs
 
 returns : tie.Need-returns
 unfolding dispatchedBy
-returns c = (cc, c .before .before .before .dispatch .ensures .window)
+returns c = (rw (c .ran-outcome .ensures, c .before .before .before .dispatch .ensures .answer), c .before .before .before .dispatch .ensures .window)
 
 pub run-spec : {M : Type 1} → statement M
 run-spec = tie.close (tie.spec dispatch-requires ran-outcome-requires same-length returns)
