@@ -14,7 +14,7 @@ use Rattle.spelling.proofs.Stores.{sets-append, sets-front}
 -- what is put one after the other is put together
 pub join : {m m₁ m₂ a b : List ℕ} {at r₁ r₂ : ℕ} → Put m at a m₁ r₁ → Put m₁ r₁ b m₂ r₂ → Put m at (a ++ b) m₂ r₂
 join {m} {a} {b} {at} p q =
-    record { stored = rw sets-append (cc); place = simp length-append (omega arith) }
+    record { stored = rw (sets-append, q .stored, p .stored, p .place); place = simp length-append (omega arith) }
 
 -- what is put at the front, in lent bytes that have the room, is spelled there
 pub spelled : {line m m₁ : List ℕ} {r : ℕ} → Put m 0 line m₁ r → r ≤ length m → Spelled line m m₁ r

@@ -111,7 +111,7 @@ put-number-returns-2 : (t : ℕ) → put-number-lts.Need-returns-2 (
   put-number-below t,
   put-number.Post,
 ) (put-number-at t) put-number.Post
-put-number-returns-2 t c = record { stored = rw (put-more _ _ _ (c .before .before .before .before .before .if1 .left)) (cc); place = omega (arith, c .before .before .before .put-number .ensures .place, length-more _ (c .before .before .before .before .before .if1 .left)) }
+put-number-returns-2 t c = record { stored = rw (put-more _ _ _ (c .before .before .before .before .before .if1 .left), c .digit-byte2 .ensures, c .before .before .before .put-number .ensures .stored, c .before .before .before .put-number .ensures .place); place = omega (arith, c .before .before .before .put-number .ensures .place, length-more _ (c .before .before .before .before .before .if1 .left)) }
 
 pub +put-number-spec : {M : Type 1} → statement M
 +put-number-spec = close μ-put-number λ t. put-number-lts.spec (

@@ -20,7 +20,7 @@ same-length : tie.Need-same-length
 same-length c = search needs
 
 returns : tie.Need-returns
-returns c = (record { stored = rw sets-append (cc); place = simp length-append (omega arith) }, omega (arith, digits-of-word (c .before .before .before .before .before .args .n) (omega arith)))
+returns c = (record { stored = rw (sets-append, c .before .before .put-number .ensures .stored, c .before .before .put-number .ensures .place); place = simp length-append (omega arith) }, omega (arith, digits-of-word (c .before .before .before .before .before .args .n) (omega arith)))
 
 pub put-field-spec : {M : Type 1} → statement M
 put-field-spec =
