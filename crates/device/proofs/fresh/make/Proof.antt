@@ -12,14 +12,14 @@ fresh-requires c κs = search needs
 
 returns : tie.Need-returns
 unfolding freshOf
-returns c = rw (← c .before .before .memory-fits .ensures, c .before .if1 .taken) (cc)
+returns c = rw (← c .before .before .memory-fits .ensures, c .before .if1 .taken, c .fresh .ensures)
 
 fresh-requires-2 : tie.Need-fresh-requires-2
 fresh-requires-2 c κs = search needs
 
 returns-2 : tie.Need-returns-2
 unfolding freshOf
-returns-2 c = rw (← c .before .before .memory-fits .ensures, c .before .if1 .left) (cc)
+returns-2 c = rw (← c .before .before .memory-fits .ensures, c .before .if1 .left, c .fresh2 .ensures)
 
 pub make-spec : {M : Type 1} → statement M
 make-spec =

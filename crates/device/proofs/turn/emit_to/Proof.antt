@@ -12,7 +12,7 @@ with-slots-requires c κs = search needs
 
 returns : tie.Need-returns
 unfolding emitTo
-returns c = rw (c .before .before .before .if1 .taken) (cc)
+returns c = rw (c .before .before .before .if1 .taken, c .with-slots .ensures, c .before .emit .ensures)
 
 returns-2 : tie.Need-returns-2
 unfolding emitTo

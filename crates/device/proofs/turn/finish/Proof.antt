@@ -12,7 +12,7 @@ report-of-requires c κs = search needs
 
 returns : tie.Need-returns
 unfolding finished
-returns c = cc
+returns c = rw (c .before .device-after .ensures, c .report-of .ensures)
 
 pub finish-spec : {M : Type 1} → statement M
 finish-spec = tie.close (tie.spec device-after-requires report-of-requires returns)

@@ -21,7 +21,7 @@ raises-irq-requires c κs = search needs
 
 returns : tie.Need-returns
 unfolding reportOf
-returns c = cc
+returns c = rw (c .before .before .fence-of .ensures, c .before .before .before .before .emits-fence .ensures, c .before .before .before .slot .ensures, c .before .words-read .ensures, c .raises-irq .ensures)
 
 pub report-of-spec : {M : Type 1} → statement M
 report-of-spec =

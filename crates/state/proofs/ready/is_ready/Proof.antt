@@ -24,7 +24,7 @@ both-requires c κs = search needs
 
 returns : tie.Need-returns
 unfolding readyWhere
-returns c = cc
+returns c = rw (c .both .ensures, c .before .before .is-whole .ensures, c .before .ready-with .ensures, c .before .before .before .slot-in .ensures, c .before .before .before .before .command-at .ensures)
 
 pub is-ready-spec : {M : Type 1} → statement M
 is-ready-spec =

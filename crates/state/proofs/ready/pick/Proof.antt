@@ -50,17 +50,14 @@ loop-again : tie.Need-loop-again Inv-loop μ-loop
 unfolding ringOf
 loop-again c =
     let i = c .before .before .before .before .before .before .before .before .before .loop .inv in
-    let here = told _ _ _ refl (c .before .before .before .bytes-of-ring .ensures) (c .before .before .is-ready .ensures) (c .before .if2 .left) in
-    (omega arith, rw (c .next-ring .ensures) (next-below _ (i .1)), rw (c .next-ring .ensures) (i .2 ∙ seek-on _ _ _ (omega arith) here))
+    (omega arith, rw (c .next-ring .ensures) (next-below _ (i .1)), rw (c .next-ring .ensures) (i .2 ∙ seek-on _ _ _ (omega arith) (told _ _ _ refl (c .before .before .before .bytes-of-ring .ensures) (c .before .before .is-ready .ensures) (c .before .if2 .left))))
 
 returns : tie.Need-returns Inv-loop μ-loop
 returns c = rw (c .before .loop .inv .2, c .if1 .taken, seek-none)
 
 returns-2 : tie.Need-returns-2 Inv-loop μ-loop
 unfolding ringOf
-returns-2 c =
-    let here = told _ _ _ refl (c .before .before .bytes-of-ring .ensures) (c .before .is-ready .ensures) (c .if2 .taken) in
-    sym (c .before .before .before .before .before .before .before .before .loop .inv .2 ∙ seek-here _ _ _ (omega arith) here)
+returns-2 c = sym (c .before .before .before .before .before .before .before .before .loop .inv .2 ∙ seek-here _ _ _ (omega arith) (told _ _ _ refl (c .before .before .bytes-of-ring .ensures) (c .before .is-ready .ensures) (c .if2 .taken)))
 
 pub pick-spec : {M : Type 1} → statement M
 pick-spec =

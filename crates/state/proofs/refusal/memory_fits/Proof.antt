@@ -24,7 +24,7 @@ both-requires c κs = search needs
 
 returns : tie.Need-returns
 unfolding memoryFits
-returns c = cc
+returns c = rw (c .both .ensures, c .before .all-four .ensures, c .before .before .before .before .before .window-fits .ensures, c .before .before .before .before .window-fits2 .ensures, c .before .before .before .window-fits3 .ensures, c .before .before .window-fits4 .ensures)
 
 pub memory-fits-spec : {M : Type 1} → statement M
 memory-fits-spec =

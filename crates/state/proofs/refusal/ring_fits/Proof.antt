@@ -12,7 +12,7 @@ both-requires c κs = search needs
 
 returns : tie.Need-returns
 unfolding ringFits
-returns c = cc
+returns c = c .both .ensures
 
 pub ring-fits-spec : {M : Type 1} → statement M
 ring-fits-spec = tie.close (tie.spec cast-both both-requires returns)

@@ -21,7 +21,7 @@ both-requires c κs = search needs
 
 returns : tie.Need-returns
 unfolding ringSound
-returns c = cc
+returns c = rw (c .both .ensures, c .before .is-done .ensures, c .before .before .held-fault .ensures)
 
 pub ring-sound-spec : {M : Type 1} → statement M
 ring-sound-spec =

@@ -33,7 +33,7 @@ all-four-requires c κs = search needs
 
 returns : tie.Need-returns
 unfolding ringsFit
-returns c = cc
+returns c = rw (c .all-four .ensures, c .before .before .before .before .before .before .before .ring-fits .ensures, c .before .before .before .before .before .before .before .before .ring .ensures, c .before .before .before .before .before .ring-fits2 .ensures, c .before .before .before .before .before .before .ring2 .ensures, c .before .before .before .ring-fits3 .ensures, c .before .before .before .before .ring3 .ensures, c .before .ring-fits4 .ensures, c .before .before .ring4 .ensures)
 
 pub rings-fit-spec : {M : Type 1} → statement M
 rings-fit-spec =

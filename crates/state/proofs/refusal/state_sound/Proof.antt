@@ -36,7 +36,7 @@ both-requires c κs = search needs
 
 returns : tie.Need-returns
 unfolding stateSound
-returns c = cc
+returns c = rw (c .both .ensures, c .before .before .all-four .ensures, c .before .before .before .before .before .before .before .before .before .ring-sound .ensures, c .before .before .before .before .before .before .before .before .before .before .ring .ensures, c .before .before .before .before .before .before .before .ring-sound2 .ensures, c .before .before .before .before .before .before .before .before .ring2 .ensures, c .before .before .before .before .before .ring-sound3 .ensures, c .before .before .before .before .before .before .ring3 .ensures, c .before .before .before .ring-sound4 .ensures, c .before .before .before .before .ring4 .ensures)
 
 pub state-sound-spec : {M : Type 1} → statement M
 state-sound-spec =

@@ -21,7 +21,7 @@ both-requires-2 c κs = search needs
 
 returns : tie.Need-returns
 unfolding windowFits
-returns c = cc
+returns c = rw (c .both2 .ensures, c .before .both .ensures)
 
 pub window-fits-spec : {M : Type 1} → statement M
 window-fits-spec =

@@ -21,7 +21,7 @@ memory-fits-requires c κs = search needs
 
 returns : tie.Need-returns
 unfolding windowsFit
-returns c = cc
+returns c = rw (c .memory-fits .ensures, c .before .before .before .before .before .before .before .before .ring .ensures, c .before .before .before .before .before .before .before .ring2 .ensures, c .before .before .before .before .before .before .ring3 .ensures, c .before .before .before .before .before .ring4 .ensures)
 
 pub windows-fit-spec : {M : Type 1} → statement M
 windows-fit-spec =

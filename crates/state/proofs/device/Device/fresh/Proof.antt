@@ -21,7 +21,7 @@ of-requires c κs = search needs
 
 returns : tie.Need-returns
 unfolding freshDevice
-returns c = cc
+returns c = rw (c .of .ensures, c .before .fresh-ring4 .ensures, c .before .before .fresh-ring3 .ensures, c .before .before .before .fresh-ring2 .ensures, c .before .before .before .before .fresh-ring .ensures)
 
 pub fresh-spec : {M : Type 1} → statement M
 fresh-spec =
