@@ -68,26 +68,11 @@ module _ (d : Device) (memory : ℕ) (r0 r1 r2 r3 : List ℕ) (pipe : ℕ) (pack
   unfolding verdictOf
   tests = all-passed (windowsFit d memory) (stateSound d) (ringsFit d (length r0) (length r1) (length r2) (length r3)) (leb 1020 pipe) (soundPack pack) sound
 
-  pub windows-fit : windowsFit d memory ≡ true
-  windows-fit = tests .0
-
-  pub state-sound : stateSound d ≡ true
-  state-sound = tests .1
-
-  pub rings-fit : ringsFit d (length r0) (length r1) (length r2) (length r3) ≡ true
-  rings-fit = tests .2
-
-  pub pipe-room : 1020 ≤ pipe
-  pipe-room = leb-true 1020 pipe (tests .3)
-
-  pub pack-sound : soundPack pack ≡ true
-  pack-sound = tests .4
-
   pub steady : Steady d
   unfolding stateSound ringSound
   steady = record {
-    marker = omega (arith, leb-true (d .marker) 3 (both-left (leb (d .marker) 3) all-sound state-sound));
-    cursors = λ q h. leb-true _ _ (both-left _ _ (all-four (λ p. ringSound (ringOf d p)) (both-right (leb (d .marker) 3) all-sound state-sound) q h));
+    marker = omega (arith, leb-true (d .marker) 3 (both-left (leb (d .marker) 3) all-sound (tests .1)));
+    cursors = λ q h. leb-true _ _ (both-left _ _ (all-four (λ p. ringSound (ringOf d p)) (both-right (leb (d .marker) 3) all-sound (tests .1)) q h));
   }
     where
       all-sound : Bool
@@ -98,12 +83,12 @@ module _ (d : Device) (memory : ℕ) (r0 r1 r2 r3 : List ℕ) (pipe : ℕ) (pack
   window-inside q h =
       let w = ringOf d q .window in
       leb-true _ _ (both-right (eqb (w .start % 4) 0 && eqb (w .length % 4) 0) _
-      (all-four (λ p. windowFits memory (ringOf d p .window)) (both-right (leb memory 1048576) _ windows-fit) q h))
+      (all-four (λ p. windowFits memory (ringOf d p .window)) (both-right (leb memory 1048576) _ (tests .0)) q h))
 
   ring-short : (q : ℕ) → q < 4 → length (bytesOfRing q r0 r1 r2 r3) ≤ 65536
   unfolding ringsFit ringFits bytesOfRing
   ring-short q h =
-      leb-true _ _ (both-left _ _ (all-four (λ p. ringFits (ringOf d p) (length (bytesOfRing p r0 r1 r2 r3))) rings-fit q h))
+      leb-true _ _ (both-left _ _ (all-four (λ p. ringFits (ringOf d p) (length (bytesOfRing p r0 r1 r2 r3))) (tests .2) q h))
 
   picked : (q : ℕ) → pickOf d r0 r1 r2 r3 ≡ Ring q → (q < 4) × (readyAt d q (bytesOfRing q r0 r1 r2 r3) ≡ true)
   unfolding pickOf
@@ -117,5 +102,5 @@ module _ (d : Device) (memory : ℕ) (r0 r1 r2 r3 : List ℕ) (pipe : ℕ) (pack
     cursor = steady .cursors q (picked q e .0);
     whole = both-left _ _ (picked q e .1);
     short = ring-short q (picked q e .0);
-    room = pipe-room;
+    room = leb-true 1020 pipe (tests .3);
   }

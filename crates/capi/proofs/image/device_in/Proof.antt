@@ -27,7 +27,7 @@ of-requires c κs = search needs
 
 returns : tie.Need-returns
 unfolding decode
-returns c = cc
+returns c = rw (c .of .ensures, c .before .before .before .before .before .before .ring-at .ensures, c .before .before .before .before .before .ring-at2 .ensures, c .before .before .before .before .ring-at3 .ensures, c .before .before .before .ring-at4 .ensures, c .before .before .slots-of .ensures, c .before .word-in .ensures)
 
 pub device-in-spec : {M : Type 1} → statement M
 device-in-spec =

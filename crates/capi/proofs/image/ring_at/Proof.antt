@@ -42,7 +42,7 @@ word-in-requires-5 c κs = search needs
 
 returns : tie.Need-returns
 unfolding ringAt
-returns c = cc
+returns c = rw (c .before .window-at .ensures, c .word-in5 .ensures, c .before .before .frame-of .ensures, c .before .before .before .before .before .before .word-in .ensures, c .before .before .before .before .before .word-in2 .ensures, c .before .before .before .before .word-in3 .ensures, c .before .before .before .word-in4 .ensures)
 
 pub ring-at-spec : {M : Type 1} → statement M
 ring-at-spec =

@@ -18,7 +18,7 @@ format-of-requires c κs = search needs
 
 returns : tie.Need-returns
 unfolding ringWords
-returns c = cc
+returns c = rw (c .before .before .before .held-of .ensures, c .before .before .base-of .ensures, c .before .stride-of .ensures, c .format-of .ensures)
 
 pub ring-words-spec : {M : Type 1} → statement M
 ring-words-spec =

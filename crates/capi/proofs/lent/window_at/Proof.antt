@@ -15,7 +15,7 @@ word-in-requires-2 c κs = search needs
 
 returns : tie.Need-returns
 unfolding windowAt
-returns c = cc
+returns c = rw (c .before .word-in .ensures, c .word-in2 .ensures)
 
 pub window-at-spec : {M : Type 1} → statement M
 window-at-spec = tie.close (tie.spec word-in-requires add-word-in word-in-requires-2 returns)
