@@ -1,4 +1,3 @@
 pub mod TableRows
-pub mod Outcomes
 pub mod Sizes
 pub mod Agree

@@ -9,7 +9,6 @@ use native.Mathlib.Omega.{arith}
 use lib.Dec.{lit≤}
 use lib.ListN.{length, getD}
 use borrow.Author.Tests.{leb-true}
-use Rattle.memory.proofs.Places.{Bytes}
 use Rattle.command.specs.Flags.{waitBit, payloadBit}
 use Rattle.command.specs.Header.{waitSize, payloadSize, commandAt, isWhole}
 use Rattle.words.proofs.Choices.{cond-le}
@@ -31,10 +30,6 @@ module _ (ring : List ℕ) (cursor : ℕ) where
   unfolding commandAt
   size-by-len =
       omega (arith, wait-size-most (getD ring (cursor + 1) 0), payload-size-most (getD ring (cursor + 1) 0) (getD ring (cursor + 3) 0))
-
-  pub size-most : Bytes ring → commandAt ring cursor .size ≤ 1040
-  unfolding commandAt
-  size-most bytes = omega (arith, bytes (cursor + 3), size-by-len)
 
   -- a whole command's payload lies in the ring
   pub payload-inside : isWhole ring cursor ≡ true → payloadBit (commandAt ring cursor .flags) ≡ true

@@ -2,6 +2,5 @@ pub mod SectionLaws
 pub mod PartLaws
 pub mod ParseLaws
 pub mod Accepted
-pub mod LaidOut
 pub mod SoundPacks
 pub mod WholeCase

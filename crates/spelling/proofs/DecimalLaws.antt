@@ -2,8 +2,7 @@
 -- Assumes nothing.
 use mathlib.Core.Path.{_≡_, refl}
 use mathlib.Core.Bool.{Bool, true, false}
-use mathlib.Core.List.{List, [], _∷_, _++_, List·Memᴰ, List·Memᴰ·append-cases, List·Memᴰ·eq-of-singleton}
-use mathlib.Core.Logic.{⊎-elim}
+use mathlib.Core.List.{List, [], _∷_, _++_}
 use Prim.Native.Nat.{ℕ, zero, suc, _+_, _-_, _*_, _/_, _%_, _^_, _≤_, _<_}
 use native.Mathlib.Nat.{pow-suc}
 use native.Mathlib.Omega.{arith}
@@ -99,19 +98,6 @@ no-leading-zero = of-decimal (λ n ds. (1 ≤ length ds) × (1 ≤ n → 49 ≤ 
         → (1 ≤ length (tenth ++ (digit (n % 10) ∷ []))) × (1 ≤ n → 49 ≤ getD (tenth ++ (digit (n % 10) ∷ [])) 0 0)
     large n tenth h rec =
         (simp length-append (omega arith), λ k. rw (List·getD-append tenth (digit (n % 10) ∷ []) 0 0 (omega arith)) (rec .1 (omega arith)))
-
-abbrev pub IsDigit : ℕ → Type 0
-IsDigit b = (48 ≤ b) × (b ≤ 57)
-
--- each of its bytes is a digit's
-pub all-digits : (n b : ℕ) → List·Memᴰ b (decimal n) → IsDigit b
-all-digits = of-decimal (λ n ds. (b : ℕ) → List·Memᴰ b ds → IsDigit b) small large
-  where
-    small : (n : ℕ) → n < 10 → (b : ℕ) → List·Memᴰ b (digit n ∷ []) → IsDigit b
-    small n h b m = let e = List·Memᴰ·eq-of-singleton m in (omega arith, omega arith)
-
-    large : (n : ℕ) (tenth : List ℕ) → 10 ≤ n → ((b : ℕ) → List·Memᴰ b tenth → IsDigit b) → (b : ℕ) → List·Memᴰ b (tenth ++ (digit (n % 10) ∷ [])) → IsDigit b
-    large n tenth h rec b m = ⊎-elim (rec b) (small (n % 10) (omega arith) b) (List·Memᴰ·append-cases tenth m)
 
 -- a number below the (k + 1)-th power of ten has at most k + 1 digits
 pub digits-most : (n k : ℕ) → n < 10 ^ suc k → length (decimal n) ≤ suc k

@@ -50,10 +50,6 @@ module _ (c : Command) (full : Bool) (length : ℕ) (frame : Frame) (pack : List
   unfolding faultOf
   header-done = or-else-done (headerFault c) _ fine .0
 
-  pub slot-done : isDone (slotFault c full) ≡ true
-  unfolding faultOf
-  slot-done = or-else-done (slotFault c full) _ (or-else-done (headerFault c) _ fine .1) .0
-
   pub check-done : isDone (checkOf c length frame pack) ≡ true
   unfolding faultOf
   check-done = or-else-done (slotFault c full) _ (or-else-done (headerFault c) _ fine .1) .1

@@ -1,4 +1,4 @@
--- What every command keeps: the lengths of the window and the pipe, that their numbers are bytes, and that a frame passes its test.
+-- What every command keeps: the lengths of the window and the pipe, and that a frame passes its test.
 -- Assumes nothing.
 use mathlib.Core.Path.{_≡_, refl}
 use mathlib.Core.Bool.{Bool, true}
@@ -6,9 +6,7 @@ use mathlib.Core.List.{List}
 use Prim.Native.Nat.{ℕ}
 use lib.ListN.{length}
 use Rattle.memory.proofs.Lengths.{filled-length, copied-length, blitted-length, transferred-length}
-use Rattle.memory.proofs.Places.{Bytes}
-use Rattle.memory.proofs.ByteSized.{filled-bytes, copied-bytes, blitted-bytes, transferred-bytes}
-use Rattle.kernel.proofs.Windows.{dispatch-length, dispatch-bytes}
+use Rattle.kernel.proofs.Windows.{dispatch-length}
 use Rattle.command.specs.declared.header.Command.{Command}
 use Rattle.command.specs.declared.frame.Frame.{Frame}
 use Rattle.command.specs.Opcode.{setFb}
@@ -37,10 +35,6 @@ module _ (c : Command) (full : Bool) (ring window : List ℕ) (frame : Frame) (p
   abbrev pub Long : Left → Type 0
   Long l = (length (l .window) ≡ length window) × (length (l .pipe) ≡ length pipe)
 
-  -- bytes
-  abbrev pub InBytes : Left → Type 0
-  InBytes l = Bytes (l .window) × Bytes (l .pipe)
-
   -- a frame that SET_FB would not refuse
   abbrev pub Held : Left → Type 0
   Held l = isDone (heldFault (l .performed .frame) (length window)) ≡ true
@@ -60,22 +54,6 @@ module _ (c : Command) (full : Bool) (ring window : List ℕ) (frame : Frame) (p
       (λ e. (refl, refl))
       (refl, refl))
       (λ faulty. (refl, refl))
-
-  pub performed-bytes : Bytes ring → Bytes window → Bytes pipe → InBytes left
-  unfolding leaves afterDispatch dispatchedBy
-  performed-bytes r w p =
-      performed-has c full ring window frame pack pipe limit InBytes
-      (λ fine.
-      work-has c ring window frame pack pipe limit InBytes
-      (λ e. (transferred-bytes window w _ _ _ _ r, p))
-      (λ e. (w, transferred-bytes pipe p _ _ _ _ w))
-      (λ e. (filled-bytes window w _ _ _ _ _, p))
-      (λ e. (blitted-bytes window w _ _ _ _ _, p))
-      (λ e. (dispatch-bytes limit pack window _ _ _ w, p))
-      (λ e. (copied-bytes window w _ _ _, p))
-      (λ e. (w, p))
-      (w, p))
-      (λ faulty. (w, p))
 
   pub performed-frame : isDone (heldFault frame (length window)) ≡ true → Held left
   unfolding leaves afterDispatch heldBy heldFault

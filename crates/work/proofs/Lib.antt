@@ -1,9 +1,9 @@
-pub mod Shapes
+pub mod RectangleBounds
 pub mod Inside
 pub mod Works
 pub mod Faultless
 pub mod Performs
-pub mod Numbers
+pub mod OutcomeRanges
 pub mod Kept
 pub mod Reports
-pub mod Rings
+pub mod OwnBytes

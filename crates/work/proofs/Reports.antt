@@ -5,9 +5,7 @@ use mathlib.Core.Bool.{Bool, true, false, _&&_, or-true}
 use mathlib.Core.List.{List}
 use mathlib.Core.Logic.{inl, inr, ⊎-elim}
 use Prim.Native.Nat.{ℕ, _≤_, _<_}
-use native.Mathlib.Nat.{le-refl}
 use native.Mathlib.Omega.{arith}
-use lib.Dec.{eqb}
 use lib.ListN.{length}
 use borrow.Author.Tests.{le-leb, lt-leb, eqb-false}
 use Rattle.command.specs.declared.outcome.Outcome.{Outcome}
@@ -17,13 +15,11 @@ use Rattle.command.specs.Outcome.{outcomeNumber, isDone}
 use Rattle.command.specs.Flags.{irqBit, emitBit}
 use Rattle.command.specs.Faults.{headerFault}
 use Rattle.work.specs.Checks.{slotFault, checkOf}
-use Rattle.command.specs.Report.{doneOrFrom, emits, interrupts, wordsRead}
+use Rattle.command.specs.Report.{doneOrFrom, emits, interrupts}
 use Rattle.work.specs.Work.{Left, leaves, workOf}
 use Rattle.work.specs.Perform.{orElse, faultOf, performedOf}
-use Rattle.words.proofs.Choices.{cond-has}
-use Rattle.work.proofs.Numbers.{DoneOr, header-range, slot-range, check-range, work-range}
+use Rattle.work.proofs.OutcomeRanges.{DoneOr, header-range, slot-range, check-range, work-range}
 use Rattle.work.proofs.Performs.{performed-fault, performed-has}
-use Rattle.command.specs.Opcode.{readMem}
 
 -- a fault hides the next; none lets it through
 or-else-fault : (fault next : Outcome) → isDone fault ≡ false → orElse fault next ≡ fault
@@ -122,8 +118,3 @@ module _ (c : Command) (full : Bool) (ring window : List ℕ) (frame : Frame) (p
       go false s eh es = rw (header-outcome eh) (from-fails 5 1 4 (headerFault c) (omega arith) (omega arith) (header-range c) eh)
       go true false eh es = rw (slot-outcome eh es) (from-holds 5 5 5 (slotFault c full) (omega arith) (slot-range c full))
       go true true eh es = from-holds 5 6 14 outcome (omega arith) (checked-range eh es)
-
--- words read are at most len
-pub words-read-most : (c : Command) (o : Outcome) → wordsRead c o ≤ c .len
-unfolding wordsRead
-words-read-most c o = cond-has (λ n. n ≤ c .len) (eqb (c .opcode) readMem && isDone o) {x = c .len} {y = 0} (λ e. le-refl _) (λ e. omega arith)

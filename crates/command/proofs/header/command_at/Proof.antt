@@ -65,7 +65,7 @@ add-t18 c = omega (arith, rw (← c .before .before .before .before .before .bef
 
 returns : tie.Need-returns
 unfolding commandAt
-returns c = rw (c .payload-size .ensures, c .before .target-at .ensures, c .before .before .peek-word3 .ensures, c .before .before .before .peek-word2 .ensures, c .before .before .before .before .peek-word .ensures, c .before .before .before .before .before .peek-byte4 .ensures, c .before .before .before .before .before .before .peek-byte3 .ensures, c .before .before .before .before .before .before .before .wait-size .ensures, c .before .before .before .before .before .before .before .before .peek-byte2 .ensures, c .before .before .before .before .before .before .before .before .before .peek-byte .ensures)
+returns c = rw (← c .before .before .before .before .before .before .before .before .before .peek-byte .ensures, ← c .before .before .before .before .before .before .before .before .peek-byte2 .ensures, ← c .before .before .before .before .before .before .before .wait-size .ensures, ← c .before .before .before .before .before .before .peek-byte3 .ensures, ← c .before .before .before .before .before .peek-byte4 .ensures, ← c .before .before .before .before .peek-word .ensures, ← c .before .before .before .peek-word2 .ensures, ← c .before .before .peek-word3 .ensures, ← c .before .target-at .ensures, ← c .payload-size .ensures)
 
 pub command-at-spec : {M : Type 1} → statement M
 command-at-spec =

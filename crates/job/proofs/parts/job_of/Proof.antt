@@ -33,7 +33,7 @@ content-of-requires-5 c κs = search needs
 
 returns : tie.Need-returns
 unfolding jobOf
-returns c = rw (c .content-of5 .ensures, c .before .content-of4 .ensures, c .before .before .content-of3 .ensures, c .before .before .before .content-of2 .ensures, c .before .before .before .before .content-of .ensures, c .before .before .before .before .before .window-at4 .ensures, c .before .before .before .before .before .before .window-at3 .ensures, c .before .before .before .before .before .before .before .window-at2 .ensures, c .before .before .before .before .before .before .before .before .window-at .ensures)
+returns c = rw (← c .before .before .before .before .before .before .before .before .window-at .ensures, ← c .before .before .before .before .before .before .before .window-at2 .ensures, ← c .before .before .before .before .before .before .window-at3 .ensures, ← c .before .before .before .before .before .window-at4 .ensures, ← c .before .before .before .before .content-of .ensures, ← c .before .before .before .content-of2 .ensures, ← c .before .before .content-of3 .ensures, ← c .before .content-of4 .ensures, ← c .content-of5 .ensures)
 
 pub job-of-spec : {M : Type 1} → statement M
 job-of-spec =

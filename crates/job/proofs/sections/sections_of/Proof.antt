@@ -31,7 +31,7 @@ section-at-requires-8 c κs = search needs
 
 returns : tie.Need-returns
 unfolding sectionsOf windowsOf ring0Of ring1Of ring2Of ring3Of kernelsOf codeOf memoryOf
-returns c = (rw (c .section-at8 .ensures .0, c .before .section-at7 .ensures .0, c .before .before .section-at6 .ensures .0, c .before .before .before .section-at5 .ensures .0, c .before .before .before .before .section-at4 .ensures .0, c .before .before .before .before .before .section-at3 .ensures .0, c .before .before .before .before .before .before .section-at2 .ensures .0, c .before .before .before .before .before .before .before .section-at .ensures .0), omega (arith, c .before .before .section-at6 .ensures .1, c .before .before .section-at6 .ensures .2, c .before .before .before .section-at5 .ensures .2, c .before .before .before .before .section-at4 .ensures .2, c .before .before .before .before .before .section-at3 .ensures .2, c .before .before .before .before .before .before .section-at2 .ensures .2, c .before .before .before .before .before .before .before .section-at .ensures .2))
+returns c = (rw (← c .before .before .before .before .before .before .before .section-at .ensures .0, ← c .before .before .before .before .before .before .section-at2 .ensures .0, ← c .before .before .before .before .before .section-at3 .ensures .0, ← c .before .before .before .before .section-at4 .ensures .0, ← c .before .before .before .section-at5 .ensures .0, ← c .before .before .section-at6 .ensures .0, ← c .before .section-at7 .ensures .0, ← c .section-at8 .ensures .0), omega (arith, c .before .before .section-at6 .ensures .1, c .before .before .section-at6 .ensures .2, c .before .before .before .section-at5 .ensures .2, c .before .before .before .before .section-at4 .ensures .2, c .before .before .before .before .before .section-at3 .ensures .2, c .before .before .before .before .before .before .section-at2 .ensures .2, c .before .before .before .before .before .before .before .section-at .ensures .2))
 
 pub sections-of-spec : {M : Type 1} → statement M
 sections-of-spec =

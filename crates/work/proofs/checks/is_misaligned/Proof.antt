@@ -33,7 +33,7 @@ one-of-requires-2 c κs = search needs
 
 returns : tie.Need-returns
 unfolding misaligned
-returns c = rw (c .one-of2 .ensures, c .before .one-of .ensures, c .before .before .both3 .ensures, c .before .before .before .frame-misaligned .ensures, c .before .before .before .before .before .both2 .ensures, c .before .before .before .before .before .before .not-a-multiple2 .ensures, c .before .before .before .before .before .before .before .both .ensures, c .before .before .before .before .before .before .before .before .not-a-multiple .ensures, c .before .before .before .before .before .before .before .before .before .row-of .ensures)
+returns c = rw (← c .before .before .before .before .before .before .before .before .before .row-of .ensures, ← c .before .before .before .before .before .before .before .before .not-a-multiple .ensures, ← c .before .before .before .before .before .before .before .both .ensures, ← c .before .before .before .before .before .before .not-a-multiple2 .ensures, ← c .before .before .before .before .before .both2 .ensures, ← c .before .before .before .frame-misaligned .ensures, ← c .before .before .both3 .ensures, ← c .before .one-of .ensures, ← c .one-of2 .ensures)
 
 pub is-misaligned-spec : {M : Type 1} → statement M
 is-misaligned-spec =

@@ -33,7 +33,7 @@ one-of-requires-2 c κs = search needs
 
 returns : tie.Need-returns
 unfolding outside
-returns c = rw (c .one-of2 .ensures, c .before .one-of .ensures, c .before .before .both3 .ensures, c .before .before .before .frame-outside .ensures, c .before .before .before .before .before .both2 .ensures, c .before .before .before .before .before .before .end-of2 .ensures, c .before .before .before .before .before .before .before .both .ensures, c .before .before .before .before .before .before .before .before .end-of .ensures, c .before .before .before .before .before .before .before .before .before .row-of .ensures)
+returns c = rw (← c .before .before .before .before .before .before .before .before .before .row-of .ensures, ← c .before .before .before .before .before .before .before .before .end-of .ensures, ← c .before .before .before .before .before .before .before .both .ensures, ← c .before .before .before .before .before .before .end-of2 .ensures, ← c .before .before .before .before .before .both2 .ensures, ← c .before .before .before .frame-outside .ensures, ← c .before .before .both3 .ensures, ← c .before .one-of .ensures, ← c .one-of2 .ensures)
 
 pub is-outside-spec : {M : Type 1} → statement M
 is-outside-spec =

@@ -24,7 +24,7 @@ both-requires c κs = search needs
 
 returns : tie.Need-returns
 unfolding unfitDispatch
-returns c = rw (c .both .ensures, c .before .before .one-of2 .ensures, c .before .before .before .before .kernel-count .ensures, c .before .before .before .before .before .one-of .ensures, c .before .before .before .before .before .before .is-out-of-range2 .ensures, c .before .before .before .before .before .before .before .is-out-of-range .ensures)
+returns c = rw (← c .before .before .before .before .before .before .before .is-out-of-range .ensures, ← c .before .before .before .before .before .before .is-out-of-range2 .ensures, ← c .before .before .before .before .before .one-of .ensures, ← c .before .before .before .before .kernel-count .ensures, ← c .before .before .one-of2 .ensures, ← c .both .ensures)
 
 pub is-unfit-dispatch-spec : {M : Type 1} → statement M
 is-unfit-dispatch-spec =

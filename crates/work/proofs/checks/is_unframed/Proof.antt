@@ -1,5 +1,5 @@
 -- `work::checks::is_unframed` meets its contract. Assumes nothing.
-use Rattle.work.proofs.Shapes.{width-fits}
+use Rattle.work.proofs.RectangleBounds.{width-fits}
 use Rattle.work.specs.Checks.{unframed}
 use borrow.Author.Needs.{needs}
 use Rattle.work.proofs.checks.is_unframed.Statement.{statement}

@@ -3,7 +3,7 @@ use mathlib.Core.Path.{refl}
 use Rattle.work.specs.Shape.{endOf}
 use Rattle.words.proofs.Choices.{chosen, passed}
 use native.Mathlib.Omega.{arith}
-use Rattle.work.proofs.Shapes.{width-fits, height-fits}
+use Rattle.work.proofs.RectangleBounds.{width-fits, height-fits}
 use borrow.Author.Needs.{needs}
 use Rattle.work.proofs.shape.end_of.Statement.{statement}
 use Rattle.work.proofs.shape.end_of.Tie as tie

@@ -2,7 +2,7 @@
 use Rattle.memory.specs.Rectangle.{rectangleEnd}
 use borrow.Author.Tests.{ne-eqb}
 use native.Mathlib.Omega.{arith}
-use Rattle.work.proofs.Shapes.{rows-fit}
+use Rattle.work.proofs.RectangleBounds.{rows-fit}
 use borrow.Author.Needs.{needs}
 use Rattle.work.proofs.shape.rectangle_end.Statement.{statement}
 use Rattle.work.proofs.shape.rectangle_end.Tie as tie

@@ -22,15 +22,13 @@ write-words-requires : tie.Need-write-words-requires
 unfolding rowOf
 write-words-requires c κs =
     let a = c .before .before .before .before .before .before .before .before .args in
-    let in-window = write-inside (a .command) (length (now (a .window))) (a .frame) (c .before .before .before .before .before .before .before .before .pre .0) (c .before .match .keys1) in
-    let in-ring = c .before .before .before .before .before .before .before .before .pre .1 (rw (c .before .match .keys1)) in
-    (omega (arith, in-window), omega (arith, in-ring))
+    (write-inside (a .command) (length (now (a .window))) (a .frame) (c .before .before .before .before .before .before .before .before .pre .0) (c .before .match .keys1), c .before .before .before .before .before .before .before .before .pre .1 (rw (c .before .match .keys1)))
 
 read-words-requires : tie.Need-read-words-requires
 read-words-requires c κs =
     let a = c .before .before .before .before .before .before .before .before .before .args in
     let in-window = read-inside (a .command) (length (now (a .window))) (a .frame) (c .before .before .before .before .before .before .before .before .before .pre .0) (c .before .before .match .keys2) in
-    (omega (arith, in-window), omega (arith, c .before .before .before .before .before .before .before .before .before .pre .2, c .before .before .before .struct-known2 .given))
+    (in-window, omega (arith, c .before .before .before .before .before .before .before .before .before .pre .2, c .before .before .before .struct-known2 .given))
 
 fill-rect-requires : tie.Need-fill-rect-requires
 fill-rect-requires c κs =
@@ -48,8 +46,7 @@ cast-copy c = search needs
 copy-requires : tie.Need-copy-requires
 copy-requires c κs =
     let a = c .before .before .before .before .before .before .before .before .before .args in
-    let in-window = copy-inside (a .command) (length (now (a .window))) (a .frame) (c .before .before .before .before .before .before .before .before .before .pre .0) (c .before .before .match .keys5) in
-    (omega (arith, in-window .0), omega (arith, in-window .1))
+    copy-inside (a .command) (length (now (a .window))) (a .frame) (c .before .before .before .before .before .before .before .before .before .pre .0) (c .before .before .match .keys5)
 
 run-requires : tie.Need-run-requires
 run-requires c κs = search needs
