@@ -29,7 +29,7 @@ use Rattle.device.proofs.Untaken.{other-ring}
 use Rattle.demands.specs.Calls.{headIn, answerOf, leftBy, isRefused, ServesRing, heard, EachHeard, none, more, Serves, here, later}
 use Rattle.demands.specs.FourTurns.{SameHead, FourTurns, FourTurnsByHead}
 use Rattle.demands.proofs.Answers.{is-refused}
-use Rattle.device.proofs.Turns.{servedIn, turn-cases, marker-below}
+use Rattle.device.proofs.Turns.{servedIn, turn-cases, call-steady}
 use Rattle.demands.proofs.Turns.{workIn, served-heard}
 use Rattle.demands.proofs.Works.{full-slot-stays}
 use Rattle.demands.proofs.Devices.{after-marker, after-rises, after-fits}
@@ -152,8 +152,8 @@ unfolding unchanged
 refused-or-marked d call =
     turn-cases d call (λ a. ((isRefused (a .turned .answer) ≡ true) × (a .turned .device ≡ d)) ⊎ (d .marker < 4))
     (λ why e. inl (is-refused why, refl))
-    (λ sound e. inr (marker-below d call sound))
-    (λ r sound e. inr (marker-below d call sound))
+    (λ sound e. inr (call-steady d call sound .marker))
+    (λ r sound e. inr (call-steady d call sound .marker))
 
 waits : (q : ℕ) (b : List ℕ) (k : ℕ) → q < 4 → (calls : List Call) (d : Device) → SlotsFit d → ringOf d q .cursor ≡ k
     → readyWith (commandAt b k) (slotOf d (commandAt b k .rdst)) ≡ true

@@ -8,7 +8,7 @@ use Prim.Native.Nat.{ℕ, zero, suc, _+_, _≤_, _<_}
 use native.Mathlib.Nat.{eq-or-lt-of-le}
 use native.Mathlib.Omega.{arith}
 use lib.Dec.{eqb, lit<}
-use lib.ListN.{length, getD, replicate}
+use lib.ListN.{getD, replicate}
 use lib.Seq.{getD-set-same}
 use borrow.Author.Tests.{eqb-true, eqb-false, eq-eqb, ne-eqb}
 use Rattle.command.specs.declared.header.Command.{Command}
@@ -24,14 +24,14 @@ use Rattle.state.specs.Ready.{readyWhere, readyAt, pickOf}
 use Rattle.state.specs.Slots.{emitted}
 use Rattle.device.specs.Turn.{Call, unchanged, deviceAfter, finished, reportOf, servedOf, verdictOn, ringIn, pickIn}
 use Rattle.device.specs.Untaken.{sumOf}
-use Rattle.device.proofs.Verdicts.{each-of-four, steady}
+use Rattle.device.proofs.Verdicts.{each-of-four}
 use Rattle.device.proofs.Shapes.{after-shaped, fresh-shaped}
 use Rattle.demands.specs.Calls.{headIn, answerOf, leftBy, isRefused, EachHeard, none, more}
 use Rattle.demands.specs.Bounded.{Lends, served, taken}
 use Rattle.demands.specs.Idle.{placeOf, nth, isEmitting, emitsIn, countOf, oneMore, Order, nothing, start, lastOf, IdleIsDone}
 use Rattle.device.proofs.Answers.{idle-answer}
 use Rattle.demands.proofs.Answers.{refused-serves}
-use Rattle.device.proofs.Turns.{servedIn, turn-cases, marker-below, picked-servable}
+use Rattle.device.proofs.Turns.{servedIn, turn-cases, call-steady, picked-servable}
 use Rattle.demands.proofs.Turns.{workIn, served-heard}
 use Rattle.demands.proofs.Works.{emits-when-sound}
 use Rattle.demands.proofs.Devices.{after-emit, after-no-emit, after-other-slot}
@@ -82,7 +82,7 @@ module _ (R : ℕ → List ℕ) where
       turn-cases d call (λ a. a .turned .answer ≡ Idle → ⊥)
       (λ why v a. let z : _≡_ {A = ℕ} 0 1 = cc in omega arith)
       (λ sound p a.
-      let away = distance (d .marker) q (marker-below d call sound) four in
+      let away = distance (d .marker) q (call-steady d call sound .marker) four in
       let reached = seek-reaches (λ r. readyAt d r (ringIn call r)) 4 (away .0) (d .marker) (away .1) (rw (away .2) ready) in
       let z : _≡_ {A = ℕ} 0 1 = cc (reached .2) in omega arith)
       (λ r sound p a. let z : _≡_ {A = ℕ} 0 1 = cc in omega arith)
@@ -112,7 +112,7 @@ module _ (R : ℕ → List ℕ) where
 few : (R : ℕ → List ℕ) (d : Device) (t : ℕ → ℕ) → Took R d t → (call : Call) → verdictOn d call ≡ Sound → (s : ℕ) → slotOf d s < 4294967295
 unfolding verdictOn sumOf
 few R d t took call sound s =
-    let calm = steady d (length (call .memory)) (call .ring0) (call .ring1) (call .ring2) (call .ring3) (length (call .pipe)) (call .pack) sound in
+    let calm = call-steady d call sound in
     let each : (q : ℕ) → q < 4 → t q ≤ 4096 = λ q four. omega (arith, place-least (R q) (t q), took .cursors q four, calm .cursors q four) in
     omega (arith, took .slots s, count-most R t s, each 0 (lit< tt), each 1 (lit< tt), each 2 (lit< tt), each 3 (lit< tt))
 

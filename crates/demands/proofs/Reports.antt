@@ -29,7 +29,7 @@ use Rattle.device.proofs.Untaken.{served-ring, other-ring}
 use Rattle.device.proofs.Shapes.{after-shaped}
 use Rattle.demands.specs.Calls.{headIn, leftBy}
 use Rattle.demands.specs.Reports.{Signals, Interrupts, Reads, SetsFrame, Reported, Serving, TurnReports}
-use Rattle.device.proofs.Turns.{marker-below}
+use Rattle.device.proofs.Turns.{call-steady}
 use Rattle.demands.proofs.Turns.{workIn, WasServed, served-as}
 use Rattle.demands.proofs.Works.{full-slot-stays, frame-set, frame-kept}
 use Rattle.demands.proofs.Devices.{after-marker, after-fits, after-emit, after-no-emit, after-other-slot}
@@ -130,7 +130,7 @@ reports d call report shaped fit was =
     let q = report .ring in
     let c = headIn d call q in
     let p = workIn d call q .performed in
-    let picked = found (λ r. readyAt d r (ringIn call r)) 4 (d .marker) q (marker-below d call (was .sound)) (was .pick) in
+    let picked = found (λ r. readyAt d r (ringIn call r)) 4 (d .marker) q (call-steady d call (was .sound) .marker) (was .pick) in
     record {
       ring = picked .0;
       ready = picked .1;

@@ -1,7 +1,7 @@
 -- A turn is refused, idle or served, and what a served ring has.
 -- Assumes nothing.
 use mathlib.Core.Path.{_≡_, refl}
-use Prim.Native.Nat.{ℕ, _<_}
+use Prim.Native.Nat.{ℕ}
 use lib.ListN.{length}
 use Rattle.state.specs.declared.device.Device.{Device}
 use Rattle.state.specs.declared.refusal.Refusal.{Refusal}
@@ -12,6 +12,7 @@ use Rattle.state.specs.declared.ready.Picked.the-variants.{Ring as RingOf, Nobo
 use Rattle.device.specs.declared.turn.Answer.the-variants.{Refused as RefusedFor, Idle}
 use Rattle.device.specs.Turn.{Call, TurnEnd, ringIn, pickIn, unchanged, servedOf, pickedOf, judgedOf, verdictOn, turnOf, Servable}
 use Rattle.device.proofs.Verdicts.{steady, servable}
+use Rattle.state.specs.Ready.{Steady}
 
 -- a turn that serves ring q
 abbrev pub servedIn : Device → Call → ℕ → TurnEnd
@@ -34,11 +35,10 @@ turn-cases d call P refused idle served = judged (verdictOn d call) refl
     judged Sound e = picked e (pickIn d call) refl
     judged (Refused why) e = refused why e
 
--- a call that is not refused finds the marker among the rings
-pub marker-below : (d : Device) (call : Call) → verdictOn d call ≡ Sound → d .marker < 4
+-- a call that is not refused finds the marker among the rings, and cursors that fit
+pub call-steady : (d : Device) (call : Call) → verdictOn d call ≡ Sound → Steady d
 unfolding verdictOn
-marker-below d call sound =
-    steady d (length (call .memory)) (call .ring0) (call .ring1) (call .ring2) (call .ring3) (length (call .pipe)) (call .pack) sound .marker
+call-steady d call = steady d (length (call .memory)) (call .ring0) (call .ring1) (call .ring2) (call .ring3) (length (call .pipe)) (call .pack)
 
 -- what a picked ring has
 pub picked-servable : (d : Device) (call : Call) (q : ℕ) → verdictOn d call ≡ Sound → pickIn d call ≡ RingOf q

@@ -31,9 +31,9 @@ memory-fits input job e =
     rw (k .1) (simp (length-take) (omega (arith, few)))
 
 -- no more bytes are left than the rings have
-left-most : (d : Device) (call : Call) → untakenIn (ringIn call) d ≤ length (call .ring0) + length (call .ring1) + length (call .ring2) + length (call .ring3)
+untaken-most : (d : Device) (call : Call) → untakenIn (ringIn call) d ≤ length (call .ring0) + length (call .ring1) + length (call .ring2) + length (call .ring3)
 unfolding untakenIn sumOf untakenOf bytesOfRing
-left-most d call = omega arith
+untaken-most d call = omega arith
 
 -- a part has no more bytes than its bounds say
 part-most : (input : List ℕ) (part : Part) → length (bytesOf input part) ≤ part .end - part .start
@@ -41,12 +41,12 @@ unfolding bytesOf windowOf
 part-most input part = simp length-take (omega arith)
 
 -- the rings stand one after the other in the input
-pub few-left : (d : Device) (input : List ℕ) (job : Job) → partsOf input ≡ Accepted job → untakenIn (ringIn (firstCall input job)) d ≤ 61440
+pub few-untaken : (d : Device) (input : List ℕ) (job : Job) → partsOf input ≡ Accepted job → untakenIn (ringIn (firstCall input job)) d ≤ 61440
 unfolding firstCall jobOf sectionsOf ring0Of ring1Of ring2Of ring3Of sectionAt
-few-left d input job e =
+few-untaken d input job e =
     let k = checked input job e in
     let s = sectionsOf input in
-    let most = left-most d (firstCall input (jobOf input s)) in
+    let most = untaken-most d (firstCall input (jobOf input s)) in
     let m0 = part-most input (jobOf input s .ring0) in
     let m1 = part-most input (jobOf input s .ring1) in
     let m2 = part-most input (jobOf input s .ring2) in

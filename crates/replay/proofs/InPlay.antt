@@ -31,7 +31,7 @@ pub record In-play (d₀ : Device) (call₀ : Call) (memory₀ : ℕ) (text₀ :
   pub text : length lent ≡ length text₀
   pub rest : drop n lent ≡ drop n text₀
   pub shaped : Shaped d
-  pub left : 16 * turns + untakenIn (ringIn call) d ≤ 61440
+  pub untaken : 16 * turns + untakenIn (ringIn call) d ≤ 61440
   pub written : n ≤ 64 * turns
   pub lines : allLines 0 d₀ call₀ ≡ take n lent ++ allLines turns d call
 
@@ -45,7 +45,7 @@ starts d call lent pipe shaped few =
       text = refl;
       rest = refl;
       shaped = shaped;
-      left = omega arith;
+      untaken = omega arith;
       written = omega arith;
       lines = refl;
     }
@@ -54,7 +54,7 @@ module _ {d₀ d : Device} {call₀ call : Call} {memory₀ turns n : ℕ} {text
     (p : In-play d₀ call₀ memory₀ text₀ d call text turns n) where
   -- there is room for one more line
   pub line-fits : 262144 ≤ length text₀ → n + 64 ≤ length text
-  line-fits room = omega (arith, p .left, p .written, p .text)
+  line-fits room = omega (arith, p .untaken, p .written, p .text)
 
   -- the last line ends the text
   ended : {line lent : List ℕ} {k : ℕ} → allLines turns d call ≡ line → Appended line n text lent k → k ≤ n + 64 → length lent ≡ length text → 262144 ≤ length text₀
@@ -90,7 +90,7 @@ module _ {d₀ d : Device} {call₀ call : Call} {memory₀ turns n : ℕ} {text
             text = same ∙ p .text;
             rest = next-rest text₀ a (p .rest);
             shaped = rw (shows .answer) (turn-shaped d call (p .shaped));
-            left = omega (arith, falls, p .left);
+            untaken = omega (arith, falls, p .untaken);
             written = omega (arith, p .written);
             lines = next-appended _ (p .lines ∙ ap (λ (l : List ℕ). take n text ++ l) next) a;
           }

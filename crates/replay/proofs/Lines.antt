@@ -18,7 +18,7 @@ use Rattle.device.proofs.Untaken.{served-takes}
 use Rattle.device.proofs.Shapes.{turn-shaped}
 use Rattle.replay.specs.Transcript.{servedLine, linesOf, nextCall, linesFrom, allLines, EnoughTurns}
 
--- any two numbers above the bytes left give the same lines
+-- any two numbers above the untaken bytes give the same lines
 same-lines : (f g turns : ℕ) (d : Device) (call : Call) → Shaped d → untakenIn (ringIn call) d < f → untakenIn (ringIn call) d < g → linesFrom f turns d call ≡ linesFrom g turns d call
 unfolding linesFrom linesOf untakenIn
 same-lines zero g turns d call s hf hg = absurd (omega arith)

@@ -48,7 +48,7 @@ linesFrom (suc most) turns d call =
     let after = turnOf d call in
     linesOf turns (after .turned .answer) (linesFrom most (turns + 1) (after .turned .device) (nextCall call after))
 
--- the lines of all turns: each served turn takes bytes of a ring, so there are no more turns than one more than the bytes left
+-- the lines of all turns: each served turn takes bytes of a ring, so there are no more turns than one more than the untaken bytes
 unfoldable pub allLines : ℕ → Device → Call → List ℕ
 allLines turns d call = linesFrom (suc (untakenIn (ringIn call) d)) turns d call
 

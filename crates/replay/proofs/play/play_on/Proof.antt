@@ -3,7 +3,7 @@ use mathlib.Core.Path.{sym, _∙_}
 use native.Mathlib.Omega.{arith}
 use lib.Seq.{length-take-le}
 use denote.Ref.{now}
-use Rattle.replay.proofs.Fits.{as-short, memory-fits, few-left}
+use Rattle.replay.proofs.Fits.{as-short, memory-fits, few-untaken}
 use Rattle.replay.proofs.JobText.{first-call}
 use borrow.Author.Needs.{needs}
 use Rattle.replay.proofs.play.play_on.Statement.{statement}
@@ -52,7 +52,7 @@ play-turns-requires : tie.Need-play-turns-requires
 play-turns-requires c κs =
     let s = c .before .before .before .before .before .before .before .before .before .before .before .before .before .before in
     let same = first-call (now (s .args .input)) (s .args .job) (c .before .before .before .append .ensures .front ∙ c .before .before .before .before .before .before .before .before .before .before .before .bytes-of .ensures) (c .before .before .before .before .before .before .before .before .before .before .bytes-of2 .ensures) (c .before .before .before .before .before .before .before .before .before .bytes-of3 .ensures) (c .before .before .before .before .before .before .before .before .bytes-of4 .ensures) (c .before .before .before .before .before .before .before .bytes-of5 .ensures) (c .before .before .before .before .before .before .bytes-of6 .ensures) in
-    (s .pre .0, rw same (few-left _ _ _ (s .pre .1)), s .pre .2)
+    (s .pre .0, rw same (few-untaken _ _ _ (s .pre .1)), s .pre .2)
 
 same-length : tie.Need-same-length
 same-length c = search needs

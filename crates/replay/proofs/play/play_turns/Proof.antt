@@ -35,7 +35,7 @@ enum-known-answer : tie.Need-enum-known-answer Inv-loop μ-loop
 enum-known-answer c = search needs
 
 add-turns : tie.Need-add-turns Inv-loop μ-loop
-add-turns c = omega (arith, c .before .before .before .before .before .before .before .before .before .loop .inv .left)
+add-turns c = omega (arith, c .before .before .before .before .before .before .before .before .before .loop .inv .untaken)
 
 append-turn-requires : tie.Need-append-turn-requires Inv-loop μ-loop
 append-turn-requires c κs = line-fits (c .before .before .before .before .before .before .before .before .before .before .loop .inv) (c .before .before .before .before .before .before .before .before .before .before .before .before .before .before .before .before .before .before .pre .2)
