@@ -1,8 +1,6 @@
 -- `device::turn::serve` meets its contract. Assumes nothing.
 use Rattle.device.proofs.Windows.{lent-window, lent-back}
-use mathlib.Core.Path.{ap, _∙_}
 use denote.Ref.{now}
-use Rattle.memory.specs.Window.{putBack}
 use Rattle.command.proofs.Sizes.{payload-inside}
 use Rattle.device.proofs.Wholes.{whole-inside}
 use native.Mathlib.Omega.{arith}
@@ -80,7 +78,7 @@ returns c =
     rw (← c .before .before .before .before .before .before .before .before .before .before .before .before .before .before .before .before .ring .ensures, ← c .before .before .before .before .before .before .before .before .before .before .before .before .before .before .command-at .ensures, ← c .before .before .before .before .before .before .before .before .before .before .before .before .before .slot .ensures, ← c .before .before .before .before .before .before .before .before .before .before .before .before .is-full .ensures, ← c .before .before .before .before .before .before .before .before .before .before .before .limit .ensures, ← lent-window start n m)
     (record {
       answer = rw (c .finish .ensures, p .ensures .answer);
-      memory = lent-back start n m (rw (c .before .before .before .before .before .before .before .before .before .before .before .before .before .before .before .before .ring .ensures) (s .pre .fits)) (p .last .1 .1 .1 .0) (p .kept .1 .1 .1 .0) ∙ ap (λ w. putBack start w m) (p .ensures .window);
+      memory = rw (← p .ensures .window) (lent-back start n m (rw (c .before .before .before .before .before .before .before .before .before .before .before .before .before .before .before .before .ring .ensures) (s .pre .fits)) (p .last .1 .1 .1 .0) (p .kept .1 .1 .1 .0));
       pipe = p .ensures .pipe;
     })
 

@@ -24,7 +24,7 @@ one-of-requires-2 c κs = search needs
 
 returns : tie.Need-returns
 unfolding readyWith
-returns c = rw (c .one-of2 .ensures, c .before .before .one-of .ensures, c .before .before .before .before .is-done .ensures, c .before .before .before .before .before .header-fault .ensures, c .before .before .before .wait .ensures, c .before .is-met .ensures)
+returns c = rw (← c .before .before .before .before .before .header-fault .ensures, ← c .before .before .before .before .is-done .ensures, ← c .before .before .before .wait .ensures, ← c .before .is-met .ensures, c .one-of2 .ensures, c .before .before .one-of .ensures)
 
 pub ready-with-spec : {M : Type 1} → statement M
 ready-with-spec =
