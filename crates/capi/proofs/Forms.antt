@@ -28,7 +28,7 @@ use Rattle.device.specs.Turn.{ringIn, unchanged, ringAfter, deviceAfter, finish
 use Rattle.state.proofs.Seeks.{next-below}
 use Rattle.device.proofs.Verdicts.{each-of-four}
 use Rattle.device.proofs.Turns.{turn-cases, picked-servable}
-use Rattle.device.proofs.Wholes.{whole-inside}
+use Rattle.command.proofs.Sizes.{whole-inside}
 use Rattle.device.proofs.Untaken.{served-ring, other-ring}
 use Rattle.device.proofs.Shapes.{emit-fits, after-shaped, fresh-shaped}
 use Rattle.capi.specs.Image.{heldOf, baseOf, formatOf, ringWords, ringsWords, wordsOf, windowAt}

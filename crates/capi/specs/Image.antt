@@ -13,9 +13,13 @@ use Rattle.state.specs.declared.device.Ring.{Ring}
 use Rattle.state.specs.declared.device.Device.{Device}
 use Rattle.state.specs.Device.{deviceOf, ringOf}
 
+-- how many words a ring has
+abbrev pub ringSize : ℕ
+ringSize = 7
+
 -- the words where the slots and the marker stand, and how many words and bytes there are
 abbrev pub slotsAt : ℕ
-slotsAt = 4 * 7
+slotsAt = 4 * ringSize
 
 abbrev pub markerAt : ℕ
 markerAt = slotsAt + 64

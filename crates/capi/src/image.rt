@@ -3,7 +3,7 @@ ghost use mathlib.Core.Path.{_≡_};
 ghost use Prim.Native.Nat.{_+_, _*_, _≤_};
 ghost use lib.ListN.{length};
 ghost use lib.Seq.{sets};
-ghost use Rattle.capi.specs.Image.{slotsAt, imageLength, bytesOf, heldOf, baseOf, formatOf, ringWords, ringsWords, frameOf, ringAt, wordsIn, encode, decode};
+ghost use Rattle.capi.specs.Image.{ringSize, slotsAt, imageLength, bytesOf, heldOf, baseOf, formatOf, ringWords, ringsWords, frameOf, ringAt, wordsIn, encode, decode};
 use crate::lent::put_words;
 use crate::lent::window_at;
 use crate::lent::word_in;
@@ -12,8 +12,11 @@ use command::frame::stride_of;
 use state::device::Device;
 use state::device::Ring;
 
-// The words where the slots and the marker stand: after four rings of seven words, and after the 64 slots.
-const SLOTS_AT: usize = 4 * 7;
+// How many words a ring has.
+const RING_WORDS: usize = 7;
+
+// The words where the slots and the marker stand: after four rings, and after the 64 slots.
+const SLOTS_AT: usize = 4 * RING_WORDS;
 
 const MARKER_AT: usize = SLOTS_AT + 64;
 
@@ -58,7 +61,7 @@ fn format_of(frame: Frame) -> u32
     }
 }
 
-pub fn ring_words(ring: Ring) -> [u32; 7]
+pub fn ring_words(ring: Ring) -> [u32; RING_WORDS]
     ensures { λ r. ⌜ r ≡ ringWords ring ⌝ }
 {
     let window = ring.window;
@@ -75,7 +78,7 @@ pub fn ring_words(ring: Ring) -> [u32; 7]
 }
 
 fn put_ring(image: &mut [u8], k: usize, ring: Ring)
-    requires { ⌜ 4 * k + 28 ≤ length (now image) ⌝ }
+    requires { ⌜ 4 * (k + ringSize) ≤ length (now image) ⌝ }
     ensures { λ _. ⌜ now (image .exit) ≡ sets (now (image .entry)) (4 * k) (bytesOf (ringWords ring)) ⌝ }
 {
     let words = ring_words(ring);
@@ -87,9 +90,9 @@ fn put_rings(image: &mut [u8], d: Device)
     ensures { λ _. ⌜ now (image .exit) ≡ sets (now (image .entry)) 0 (bytesOf (ringsWords d)) ⌝ }
 {
     put_ring(image, 0, d.ring(0));
-    put_ring(image, 7, d.ring(1));
-    put_ring(image, 14, d.ring(2));
-    put_ring(image, 21, d.ring(3));
+    put_ring(image, RING_WORDS, d.ring(1));
+    put_ring(image, 2 * RING_WORDS, d.ring(2));
+    put_ring(image, 3 * RING_WORDS, d.ring(3));
 }
 
 pub fn put_device(image: &mut [u8], d: Device)
@@ -117,7 +120,7 @@ fn frame_of(held: u32, base: u32, stride: u32, format: u32) -> Frame
 }
 
 fn ring_at(image: &[u8], k: usize) -> Ring
-    requires { ⌜ 4 * k + 28 ≤ length (now image) ⌝ }
+    requires { ⌜ 4 * (k + ringSize) ≤ length (now image) ⌝ }
     ensures { λ r. ⌜ r ≡ ringAt (now (image .entry)) k ⌝ }
 {
     let frame = frame_of(
@@ -150,9 +153,9 @@ pub fn device_in(image: &[u8]) -> Device
 {
     let rings = [
         ring_at(image, 0),
-        ring_at(image, 7),
-        ring_at(image, 14),
-        ring_at(image, 21),
+        ring_at(image, RING_WORDS),
+        ring_at(image, 2 * RING_WORDS),
+        ring_at(image, 3 * RING_WORDS),
     ];
     Device::of(rings, slots_of(image), word_in(image, MARKER_AT))
 }

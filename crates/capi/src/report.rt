@@ -6,7 +6,9 @@ use command::outcome::number;
 use device::turn::Answer;
 use state::refusal::refusal_number;
 
-pub const REPORT_BYTES: usize = 4 * 6;
+const REPORT_WORDS: usize = 6;
+
+pub const REPORT_BYTES: usize = 4 * REPORT_WORDS;
 
 fn bit(b: bool) -> u32
     ensures { λ r. ⌜ r ≡ cond b 1 0 ⌝ }
@@ -14,7 +16,7 @@ fn bit(b: bool) -> u32
     if b { 1 } else { 0 }
 }
 
-pub fn report_words(answer: Answer) -> [u32; 6]
+pub fn report_words(answer: Answer) -> [u32; REPORT_WORDS]
     ensures { λ r. ⌜ r ≡ reportWords answer ⌝ }
 {
     match answer {

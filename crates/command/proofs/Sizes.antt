@@ -38,3 +38,8 @@ module _ (ring : List ℕ) (cursor : ℕ) where
   payload-inside whole set =
       let fits : cursor + commandAt ring cursor .size ≤ length ring = leb-true _ _ whole in
       omega (arith, rw set at fits)
+
+-- a whole command ends inside its ring
+pub whole-inside : (ring : List ℕ) (cursor : ℕ) → isWhole ring cursor ≡ true → cursor + commandAt ring cursor .size ≤ length ring
+unfolding isWhole
+whole-inside ring cursor h = leb-true (cursor + commandAt ring cursor .size) (length ring) h

@@ -24,7 +24,7 @@ use Rattle.device.specs.Answer.{valuesOf}
 use Rattle.state.specs.Slots.{isMet}
 use Rattle.state.specs.Ready.{readyWith, readyWhere, readyAt, pickOf}
 use Rattle.device.specs.Turn.{Call, TurnEnd, turnOf, unchanged, reportOf, finished, servedOf, ringIn, pickIn}
-use Rattle.device.proofs.Wholes.{whole-inside}
+use Rattle.command.proofs.Sizes.{whole-inside}
 use Rattle.device.proofs.Untaken.{other-ring}
 use Rattle.demands.specs.Calls.{headIn, answerOf, leftBy, isRefused, ServesRing, heard, EachHeard, none, more, Serves, here, later}
 use Rattle.demands.specs.FourTurns.{SameHead, FourTurns, FourTurnsByHead}

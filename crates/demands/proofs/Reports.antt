@@ -21,7 +21,7 @@ use Rattle.state.specs.declared.device.Device.{Device}
 use Rattle.device.specs.declared.turn.Report.{Report}
 use Rattle.device.specs.declared.turn.Answer.the-variants.{Served}
 use Rattle.state.specs.Device.{Shaped, SlotsFit, ringOf, slotOf}
-use Rattle.device.specs.Answer.{Values, valuesOf}
+use Rattle.device.specs.Answer.{Values, valuesOf, reportValues}
 use Rattle.state.specs.Ready.{readyAt, pickOf}
 use Rattle.device.specs.Turn.{Call, fenceOf, ringAfter, deviceAfter, finished, servedOf, ringIn, reportOf}
 use Rattle.device.proofs.Verdicts.{found}
@@ -76,7 +76,7 @@ module _ (d : Device) (q : ℕ) (c : Command) (p : Performed) (shaped : Shaped d
     (full : emits c (p .outcome) ≡ true → isFull (slotOf d (c .rdst)) ≡ true → ⊥) (range : emits c (p .outcome) ≡ true → c .rdst < 64)
     (sets : SetsFrame c (outcomeNumber (p .outcome)) → p .frame ≡ heldBy c) (kept : (SetsFrame c (outcomeNumber (p .outcome)) → ⊥) → p .frame ≡ ringOf d q .frame) where
   abbrev told : Values
-  told = valuesOf (Served (reportOf d q c p))
+  told = reportValues (reportOf d q c p)
 
   one-more : emits c (p .outcome) ≡ true → fenceOf (emits c (p .outcome)) (slotOf d (c .rdst)) ≡ slotOf d (c .rdst) + 1
   unfolding fenceOf SlotsFit

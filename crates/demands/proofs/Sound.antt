@@ -26,7 +26,7 @@ use Rattle.device.specs.Fresh.{freshOf}
 use Rattle.device.specs.Turn.{Call, unchanged, ringAfter, reportOf, finished, servedOf, judgedOf, verdictOn, turnOf, ringIn, pickIn}
 use Rattle.state.proofs.Seeks.{next-below}
 use Rattle.device.proofs.Verdicts.{all-four}
-use Rattle.device.proofs.Wholes.{whole-inside}
+use Rattle.command.proofs.Sizes.{whole-inside}
 use Rattle.demands.specs.Calls.{headIn, answerOf, leftBy, none, more}
 use Rattle.demands.specs.EachStep.{windowIn}
 use Rattle.demands.specs.Sound.{StaysSound, TurnStaysSound, RefusedForLent, SoundRefusals, FreshMakesSound, CallsStaySound, FreshStaysSound, MakesSound, lentRingsFit}

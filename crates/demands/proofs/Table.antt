@@ -33,7 +33,8 @@ use Rattle.memory.specs.After.{after}
 use Rattle.memory.specs.Place.{halfAt, wordAt, withByte, withHalf, withWord}
 use Rattle.memory.specs.Rectangle.{rectangleEnd, filledRow, filled}
 use Rattle.memory.specs.Window.{windowOf, putBack}
-use Rattle.pack.specs.Kernels.{kernelCount, firstWord, kernelWords, codeCount, liesInCode, allLie, soundPack, kernelOf}
+use Rattle.pack.specs.Kernels.{kernelCount, firstWord, kernelWords, codeCount, liesInCode, soundPack, kernelOf}
+use Rattle.words.specs.Choice.{allBelow}
 
 vadd : (vector 3 (afterWord 0x0020A1AF (holding 0x010000FF 0x01000001)) ≡ broadcast 0x02000000)
     × (vector 3 (afterWord 0x002091AF (holding 0x010000FF 0x01000001)) ≡ broadcast 0x02000100)
@@ -41,7 +42,7 @@ unfolding afterWord started startRegisters executed decoded opOf vectorOf unused
 vadd = (refl, refl)
 
 pub table : Table
-unfolding valuesOf colored freshDevice limitOf ringOf slotOf withRing withSlots emittedIn withMarker windowFits memoryFits windowsFit ringSound stateSound ringFits ringsFit verdictOf readyWith readyWhere readyAt nextRing seek bytesOfRing pickOf unchanged fenceOf emitTo ringAfter deviceAfter reportOf finished servedOf pickedOf judgedOf verdictOn turnOf rowOf waitSize payloadSize targetAt commandAt isWhole unknownOpcode wrongPayloadBit noSuchSlot headerFault frameMisaligned frameUnfit frameFault heldFault isRectangle sizeOf widthOf heightOf tooNarrow endOf slotFault misaligned unframed outside unfitFrame outOfRange unfitDispatch checkOf emits interrupts wordsRead leaves ranOutcome dispatchedBy afterDispatch heldBy workOf orElse faultOf guarded performedOf after halfAt wordAt withByte withHalf withWord rectangleEnd filledRow filled windowOf putBack kernelCount firstWord kernelWords codeCount liesInCode allLie soundPack kernelOf
+unfolding valuesOf colored freshDevice limitOf ringOf slotOf withRing withSlots emittedIn withMarker windowFits memoryFits windowsFit ringSound stateSound ringFits ringsFit verdictOf readyWith readyWhere readyAt nextRing seek bytesOfRing pickOf unchanged fenceOf emitTo ringAfter deviceAfter reportOf finished servedOf pickedOf judgedOf verdictOn turnOf rowOf waitSize payloadSize targetAt commandAt isWhole unknownOpcode wrongPayloadBit noSuchSlot headerFault frameMisaligned frameUnfit frameFault heldFault isRectangle sizeOf widthOf heightOf tooNarrow endOf slotFault misaligned unframed outside unfitFrame outOfRange unfitDispatch checkOf emits interrupts wordsRead leaves ranOutcome dispatchedBy afterDispatch heldBy workOf orElse faultOf guarded performedOf after halfAt wordAt withByte withHalf withWord rectangleEnd filledRow filled windowOf putBack kernelCount firstWord kernelWords codeCount liesInCode allBelow soundPack kernelOf
 table = record {
   p1 = ((refl, refl), refl);
   p2 = (refl, refl);

@@ -16,17 +16,17 @@ use Rattle.device.specs.Turn.{Call, TurnEnd, turnOf}
 use Rattle.demands.specs.Calls.{numberIn, valuesIn, ringServed}
 
 -- device, memory and pipe are as they were, and nothing is reported: zeros and no IRQ
-pub record Same (d : Device) (call : Call) (after : TurnEnd) : Type 0 where
-  pub device : after .turned .device ≡ d
-  pub memory : after .memory ≡ call .memory
-  pub pipe : after .pipe ≡ call .pipe
-  pub values : valuesOf (after .turned .answer) ≡ noValues
+pub record Same (d : Device) (call : Call) (end : TurnEnd) : Type 0 where
+  pub device : end .turned .device ≡ d
+  pub memory : end .memory ≡ call .memory
+  pub pipe : end .pipe ≡ call .pipe
+  pub values : valuesOf (end .turned .answer) ≡ noValues
 
 -- memory, pipe and every frame are as they were
-pub record SameBytes (d : Device) (call : Call) (after : TurnEnd) : Type 0 where
-  pub memory : after .memory ≡ call .memory
-  pub pipe : after .pipe ≡ call .pipe
-  pub frame : (q : ℕ) → ringOf (after .turned .device) q .frame ≡ ringOf d q .frame
+pub record SameBytes (d : Device) (call : Call) (end : TurnEnd) : Type 0 where
+  pub memory : end .memory ≡ call .memory
+  pub pipe : end .pipe ≡ call .pipe
+  pub frame : (q : ℕ) → ringOf (end .turned .device) q .frame ≡ ringOf d q .frame
 
 -- place i is outside the window
 abbrev pub OutsideOf : Window → ℕ → Type 0

@@ -54,9 +54,9 @@ colored (a ∷ places) n = withWord (colored places n) a 0xAABBCCDD
 
 -- a turn that serves ring 0: this outcome, no fence, no words read and no IRQ
 abbrev pub OutcomeOn0 : ℕ → TurnEnd → Type 0
-OutcomeOn0 outcome after =
-    (answerNumber (after .turned .answer) ≡ 0)
-    × (valuesOf (after .turned .answer) ≡ record { ring = 0; outcome = outcome; fence = 0; words = 0; irq = false })
+OutcomeOn0 outcome end =
+    (answerNumber (end .turned .answer) ≡ 0)
+    × (valuesOf (end .turned .answer) ≡ record { ring = 0; outcome = outcome; fence = 0; words = 0; irq = false })
 
 -- a dispatch has this outcome, and leaves the window as it was
 pub record EndsWith (number : ℕ) (window : List ℕ) (d : Dispatched) : Type 0 where
@@ -96,7 +96,7 @@ FirstFour marker call a b c d =
 
 -- a turn that answers idle and reports nothing
 abbrev pub IdleTurn : TurnEnd → Type 0
-IdleTurn after = (answerNumber (after .turned .answer) ≡ 1) × (valuesOf (after .turned .answer) ≡ noValues)
+IdleTurn end = (answerNumber (end .turned .answer) ≡ 1) × (valuesOf (end .turned .answer) ≡ noValues)
 
 pub record Table : Type 0 where
   -- window 64, stride 16, fill at 4, 2 by 3: words at 4, 8, 20, 24, 36, 40
@@ -114,7 +114,7 @@ pub record Table : Type 0 where
   pub p6 : (opOf 0x0002930B ≡ Unary Abs) × (scalar 6 (afterWord 0x0002930B (afterWord 0xFFF00297 freshThread)) ≡ 1)
   -- 0600030B (CLZ of s0): 32
   pub p7 : scalar 6 (afterWord 0x0600030B freshThread) ≡ 32
-  -- FE502E0D (SW at -4 from s0): 13, in any dispatch of at least one step and as a whole turn
+  -- FE502E0D (SW at -4 from s0): 13, in any dispatch under a limit of at least 1 and as a whole turn
   pub p8 : ((limit groups threads : ℕ) (window : List ℕ) → 1 ≤ limit → 1 ≤ groups → 1 ≤ threads → length window < 2 ^ 32
       → EndsWith 13 window (dispatchOf limit (packOf 0xFE502E0D) 0 groups threads window))
       × OutcomeOn0 13 (turnOf (framed 64 0) (oneThread 0xFE502E0D))

@@ -1,4 +1,3 @@
-pub mod Wholes
 pub mod Verdicts
 pub mod Windows
 pub mod Turns

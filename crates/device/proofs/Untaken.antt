@@ -20,7 +20,7 @@ use Rattle.device.specs.declared.turn.Answer.the-variants.{Served}
 use Rattle.state.specs.Device.{Shaped, ringOf, withRing, withSlots, withMarker}
 use Rattle.device.specs.Turn.{Call, ringIn, unchanged, emitTo, ringAfter, deviceAfter, finished, servedOf, turnOf}
 use Rattle.device.specs.Untaken.{untakenOf, sumOf, untakenIn}
-use Rattle.device.proofs.Wholes.{whole-inside}
+use Rattle.command.proofs.Sizes.{whole-inside}
 use Rattle.device.proofs.Turns.{turn-cases, picked-servable}
 
 -- an emit changes no ring

@@ -4,6 +4,7 @@ use mathlib.Core.Bool.{Bool, false}
 use Rattle.command.specs.Outcome.{outcomeNumber}
 use Rattle.device.specs.declared.fresh.Making.{Making}
 use Rattle.device.specs.declared.fresh.Making.the-variants.{Made, Refused as RefusedToMake}
+use Rattle.device.specs.declared.turn.Report.{Report}
 use Rattle.device.specs.declared.turn.Answer.{Answer}
 use Rattle.device.specs.declared.turn.Answer.the-variants.{Refused, Idle, Served}
 use Rattle.state.specs.Refusal.{refusalNumber}
@@ -26,11 +27,15 @@ pub record Values : Type 0 where
 abbrev pub noValues : Values
 noValues = record { ring = 0; outcome = 0; fence = 0; words = 0; irq = false }
 
+-- those of a report
+abbrev pub reportValues : Report → Values
+reportValues r = record { ring = r .ring; outcome = outcomeNumber (r .outcome); fence = r .fence; words = r .words; irq = r .irq }
+
 -- an idle or refused turn reports no values
 unfoldable pub valuesOf : Answer → Values
 valuesOf (Refused why) = noValues
 valuesOf Idle = noValues
-valuesOf (Served r) = record { ring = r .ring; outcome = outcomeNumber (r .outcome); fence = r .fence; words = r .words; irq = r .irq }
+valuesOf (Served r) = reportValues r
 
 -- making a fresh device: 0 made, or the refusal's number
 abbrev pub makingNumber : Making → ℕ

@@ -5,7 +5,7 @@ use lib.ListN.{length}
 use Rattle.state.specs.declared.device.Device.{Device}
 use Rattle.state.specs.Device.{ringOf}
 
--- how many bytes of ring q, which are these, stand after its cursor
+-- how many of ring q's bytes, `ring`, stand after its cursor
 unfoldable pub untakenOf : Device → ℕ → List ℕ → ℕ
 untakenOf d q ring = length ring - ringOf d q .cursor
 

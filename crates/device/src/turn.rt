@@ -4,6 +4,7 @@ ghost use Prim.Native.Nat.{_+_, _^_, _<_};
 ghost use lib.ListN.{length};
 ghost use Rattle.state.specs.Device.{ringOf};
 ghost use Rattle.device.specs.Turn.{fenceOf, emitTo, ringAfter, deviceAfter, reportOf, finished, Shows, Servable, servedOf, callOf, turnOf};
+ghost use Rattle.state.specs.Ready.{bytesOfRing};
 use command::frame::Frame;
 use command::header::Command;
 use command::header::command_at;
@@ -140,6 +141,25 @@ fn serve(d: Device, q: u32, mem: &mut [u8], ring: &[u8], pack: &[u8], pipe: &mut
     finish(d, q, command, done)
 }
 
+// Ring q has been picked.
+fn serve_picked<'a>(
+    d: Device,
+    q: u32,
+    mem: &mut [u8],
+    r0: &'a [u8],
+    r1: &'a [u8],
+    r2: &'a [u8],
+    r3: &'a [u8],
+    pack: &[u8],
+    pipe: &mut [u8],
+) -> Turned
+    requires { ⌜ Servable d q (length (now mem)) (bytesOfRing q (now r0) (now r1) (now r2) (now r3)) (length (now pipe)) ⌝ }
+    ensures { λ r. ⌜ Shows r (now (mem .exit)) (now (pipe .exit)) (servedOf d q (bytesOfRing q (now (r0 .entry)) (now (r1 .entry)) (now (r2 .entry)) (now (r3 .entry))) (now (mem .entry)) (now (pack .entry)) (now (pipe .entry))) ⌝ }
+{
+    let ring = bytes_of_ring(q, r0, r1, r2, r3);
+    serve(d, q, mem, ring, pack, pipe)
+}
+
 // One turn. Anything may be handed in; a refused or idle turn changes nothing.
 pub fn turn<'a>(
     d: Device,
@@ -173,10 +193,7 @@ pub fn turn<'a>(
         }
     }
     match pick(d, r0, r1, r2, r3) {
-        Picked::Ring(q) => {
-            let ring = bytes_of_ring(q, r0, r1, r2, r3);
-            serve(d, q, mem, ring, pack, pipe)
-        }
+        Picked::Ring(q) => serve_picked(d, q, mem, r0, r1, r2, r3, pack, pipe),
         Picked::Nobody => Turned {
             device: d,
             answer: Answer::Idle,

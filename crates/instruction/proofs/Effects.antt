@@ -1,6 +1,5 @@
 -- The instructions that can have more than one effect: what holds of each holds of what they do.
 -- Assumes nothing.
-use mathlib.Core.Bool.{Bool, true, false, cond}
 use Prim.Native.Nat.{ℕ}
 use Rattle.memory.specs.declared.access.Loaded.{Loaded}
 use Rattle.memory.specs.declared.access.Loaded.the-variants.{Value, Outside as NoValue}
@@ -10,6 +9,7 @@ use Rattle.memory.specs.declared.quad.LoadedQuad.the-variants.{Words, Outside a
 use Rattle.instruction.specs.declared.list.Cond.{Cond}
 use Rattle.instruction.specs.declared.effect.Effect.{Effect}
 use Rattle.instruction.specs.declared.effect.Effect.the-variants.{Put, PutQuad, Go, Next, Outside}
+use Rattle.words.proofs.Choices.{cond-has}
 use Rattle.instruction.specs.Meaning.{holdsOf}
 use Rattle.instruction.specs.Effect.{loadedEffect, loadedQuadEffect, branchEffect}
 
@@ -26,11 +26,7 @@ module _ (P : Effect → Type 0) where
   of-quad-load vd (Words q) put outside = put q
   of-quad-load vd NoWords put outside = outside
 
-  either : (taken : Bool) (offset : ℕ) → P (Go offset) → P Next → P (cond taken (Go offset) Next)
-  either true offset go next = go
-  either false offset go next = next
-
   -- a branch is taken or not
   pub of-branch : (c : Cond) (offset x y : ℕ) → P (Go offset) → P Next → P (branchEffect c offset x y)
   unfolding branchEffect
-  of-branch c offset x y = either (holdsOf c x y) offset
+  of-branch c offset x y go next = cond-has P (holdsOf c x y) {x = Go offset} {y = Next} (λ e. go) (λ e. next)

@@ -15,7 +15,8 @@ use Rattle.job.specs.declared.section.Section.{Section}
 use Rattle.job.specs.declared.sections.Sections.{Sections}
 use Rattle.job.specs.Section.{isWhole}
 use Rattle.job.specs.Sections.{sectionsOf}
-use Rattle.job.specs.Kernels.{hasWord, liesInCode, allBelow}
+use Rattle.words.specs.Choice.{allBelow}
+use Rattle.job.specs.Kernels.{hasWord, liesInCode}
 use Rattle.job.specs.Checks.{windowsSound, kernelsSound, codeSound, memorySound}
 use Rattle.job.specs.Parts.{jobOf}
 use Rattle.job.specs.Parse.{unless, fromKernels, fromRings, partsOf}

@@ -16,7 +16,8 @@ use Rattle.job.specs.declared.parse.Parsed.the-variants.{Accepted}
 use Rattle.job.specs.declared.parts.Job.{Job}
 use Rattle.job.specs.Section.{sectionAt}
 use Rattle.job.specs.Sections.{sectionsOf, kernelsOf, codeOf}
-use Rattle.job.specs.Kernels.{hasWord, liesInCode, allBelow}
+use Rattle.words.specs.Choice.{allBelow}
+use Rattle.job.specs.Kernels.{hasWord, liesInCode}
 use Rattle.job.specs.Parts.{bytesOf, jobOf}
 use Rattle.job.specs.Parse.{partsOf}
 use Rattle.job.proofs.Accepted.{Checked, checked}
@@ -58,7 +59,7 @@ module _ (input : List ℕ) (at K N : ℕ) (isK : wordAt input at ≡ K) (isN : 
       (both _ _ has inside)
 
   all-lie : (n : ℕ) → n ≤ K → allBelow (hasWord input (at + 4)) n ≡ true → allBelow (liesInCode input (at + 4) N) n ≡ true → allLie (packAt input at K N) n ≡ true
-  unfolding allBelow allLie
+  unfolding allBelow
   all-lie zero b has inside = refl
   all-lie (suc n) b has inside =
       let h = and-eq-true-iff (allBelow (hasWord input (at + 4)) n) (hasWord input (at + 4) n) .0 has in

@@ -7,7 +7,7 @@ use Rattle.job.specs.declared.parts.Window.{Window}
 use Rattle.job.specs.declared.parse.Parsed.the-variants.{Accepted}
 use Rattle.job.specs.Section.{sectionAt}
 use Rattle.job.specs.Sections.{sectionsOf, windowsOf, ring0Of, ring1Of, ring2Of, ring3Of, kernelsOf, codeOf, memoryOf}
-use Rattle.job.specs.Kernels.{allBelow}
+use Rattle.words.specs.Choice.{allBelow}
 use Rattle.job.specs.Checks.{windowsSound, kernelsSound, codeSound, memorySound}
 use Rattle.job.specs.Parts.{windowAt, jobOf}
 use Rattle.job.specs.Parse.{unless, fromKernels, fromRings, partsOf}

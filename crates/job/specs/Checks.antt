@@ -5,7 +5,8 @@ use mathlib.Core.List.{List}
 use lib.Dec.{leb, eqb}
 use Rattle.job.specs.declared.section.Section.{Section}
 use Rattle.job.specs.Section.{isWhole}
-use Rattle.job.specs.Kernels.{hasWord, liesInCode, allBelow}
+use Rattle.words.specs.Choice.{allBelow}
+use Rattle.job.specs.Kernels.{hasWord, liesInCode}
 
 -- 1: four windows
 unfoldable pub windowsSound : List ℕ → Section → Bool

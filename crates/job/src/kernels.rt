@@ -1,7 +1,8 @@
 // The pairs of section 6: each kernel's first word and words.
 ghost use mathlib.Core.Path.{_≡_};
 ghost use Prim.Native.Nat.{_≤_, _^_};
-ghost use Rattle.job.specs.Kernels.{hasWord, liesInCode, allBelow};
+ghost use Rattle.words.specs.Choice.{allBelow};
+ghost use Rattle.job.specs.Kernels.{hasWord, liesInCode};
 use pack::kernels::first_word;
 use pack::kernels::kernel_words;
 use words::choice::both;

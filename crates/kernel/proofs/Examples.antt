@@ -1,4 +1,4 @@
--- The instructions that were worked by hand, P4 to P10, on the definitions; P8 and P9 under any limit.
+-- The instructions that were worked by hand, P4 to P10, on the definitions; P8 under any limit but 0 and P9 under any.
 -- Assumes nothing.
 use mathlib.Core.Path.{_≡_, refl, _∙_}
 use mathlib.Core.List.{List}

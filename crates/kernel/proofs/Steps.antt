@@ -19,7 +19,7 @@ use Rattle.memory.specs.Address.{reachOf, ifInside}
 use Rattle.memory.specs.Access.{bytesOf, withValue, storeOf}
 use Rattle.memory.specs.Quad.{withQuad, storeQuadOf}
 use Rattle.instruction.specs.declared.effect.Effect.{Effect}
-use Rattle.instruction.specs.declared.effect.Effect.the-variants.{Put, PutQuad, Store, StoreQuad, Go, Next, End, NotListed as Unlisted, Outside as LoadOutside}
+use Rattle.instruction.specs.declared.effect.Effect.the-variants.{Put, PutQuad, Store, StoreQuad, Go, Next, End, NotListed as WordNotListed, Outside as LoadOutside}
 use Rattle.instruction.specs.Decode.{decoded}
 use Rattle.pack.specs.declared.kernels.Kernel.{Kernel}
 use Rattle.kernel.specs.declared.step.Stop.{Stop}
@@ -96,7 +96,7 @@ module _ (P : State → Type 0) (t : Thread) (window : List ℕ) where
         (cases .stopped OffTheKernel (λ e. absurd (off-is-not-14 e)))
     of-effect Next = cases .next below t refl refl
     of-effect End = cases .ended below
-    of-effect Unlisted = cases .stopped NotListed (λ e. absurd (unlisted-is-not-14 e))
+    of-effect WordNotListed = cases .stopped NotListed (λ e. absurd (unlisted-is-not-14 e))
     of-effect LoadOutside = cases .stopped OutsideTheWindow (λ e. absurd (outside-is-not-14 e))
 
 module _ (limit : ℕ) (pack : List ℕ) (kernel : Kernel) (t : Thread) (window : List ℕ) where

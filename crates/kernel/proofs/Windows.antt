@@ -83,6 +83,3 @@ module _ (limit : ℕ) (pack : List ℕ) (window : List ℕ) where
 
   pub dispatch-length : (k groups threads : ℕ) → length (dispatchOf limit pack k groups threads window .window) ≡ length window
   dispatch-length k groups threads = dispatch-keeps _ (long (length window)) limit pack k groups threads window refl
-
-  pub dispatch-bytes : (k groups threads : ℕ) → Bytes window → Bytes (dispatchOf limit pack k groups threads window .window)
-  dispatch-bytes k groups threads h = dispatch-keeps _ bytes limit pack k groups threads window h

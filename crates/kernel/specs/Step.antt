@@ -12,7 +12,7 @@ use Rattle.memory.specs.Access.{bytesOf, storeOf}
 use Rattle.memory.specs.Quad.{storeQuadOf}
 use Rattle.instruction.specs.declared.list.Instr.{Instr}
 use Rattle.instruction.specs.declared.effect.Effect.{Effect}
-use Rattle.instruction.specs.declared.effect.Effect.the-variants.{Put, PutQuad, Store, StoreQuad, Go, Next, End, NotListed as Unlisted, Outside}
+use Rattle.instruction.specs.declared.effect.Effect.the-variants.{Put, PutQuad, Store, StoreQuad, Go, Next, End, NotListed as WordNotListed, Outside as LoadOutside}
 use Rattle.instruction.specs.Decode.{decoded}
 use Rattle.instruction.specs.Effect.{effectOf}
 use Rattle.pack.specs.declared.kernels.Kernel.{Kernel}
@@ -80,8 +80,8 @@ applied length rd (StoreQuad a q) t window = record {
 applied length rd (Go offset) t window = record { stepped = branched length offset t; window = window }
 applied length rd Next t window = record { stepped = goesOn t; window = window }
 applied length rd End t window = record { stepped = endsThread t; window = window }
-applied length rd Unlisted t window = stoppedAs NotListed t window
-applied length rd Outside t window = stoppedAs OutsideTheWindow t window
+applied length rd WordNotListed t window = stoppedAs NotListed t window
+applied length rd LoadOutside t window = stoppedAs OutsideTheWindow t window
 
 -- an instruction on the values of its operands
 unfoldable pub executed : ℕ → Instr → Thread → List ℕ → State

@@ -1,9 +1,10 @@
 -- The kernel pack. A byte past its end reads 0; such a pack is faulty by its length.
-use Prim.Native.Nat.{ℕ, zero, suc, _+_, _*_}
-use mathlib.Core.Bool.{Bool, true, _&&_}
+use Prim.Native.Nat.{ℕ, _+_, _*_}
+use mathlib.Core.Bool.{Bool, _&&_}
 use mathlib.Core.List.{List}
 use lib.ListN.{length}
 use lib.Dec.{leb, eqb}
+use Rattle.words.specs.Choice.{allBelow}
 use Rattle.memory.specs.Place.{wordAt}
 use Rattle.pack.specs.declared.kernels.Kernel.{Kernel}
 
@@ -34,9 +35,8 @@ liesInCode pack k =
     && leb (firstWord pack pairsStart k + kernelWords pack pairsStart k) (codeCount pack)
 
 -- each of the first n kernels does
-unfoldable pub allLie : List ℕ → ℕ → Bool
-allLie pack zero = true
-allLie pack (suc n) = allLie pack n && liesInCode pack n
+abbrev pub allLie : List ℕ → ℕ → Bool
+allLie pack n = allBelow (liesInCode pack) n
 
 -- K is 0 to 16, N is 0 to 16,384, nothing stands after the N code words, and each kernel lies in them
 unfoldable pub soundPack : List ℕ → Bool

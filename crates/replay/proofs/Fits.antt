@@ -30,7 +30,7 @@ memory-fits input job e =
     let few = k .0 .memory in
     rw (k .1) (simp (length-take) (omega (arith, few)))
 
--- no more bytes are left than the rings have
+-- no more bytes are untaken than the rings have
 untaken-most : (d : Device) (call : Call) → untakenIn (ringIn call) d ≤ length (call .ring0) + length (call .ring1) + length (call .ring2) + length (call .ring3)
 unfolding untakenIn sumOf untakenOf bytesOfRing
 untaken-most d call = omega arith

@@ -24,11 +24,12 @@ use Rattle.work.specs.Work.{leaves, workOf}
 use Rattle.work.specs.Perform.{orElse, faultOf, guarded, performedOf}
 use Rattle.memory.specs.Place.{wordAt}
 use Rattle.memory.specs.Window.{windowOf, putBack}
-use Rattle.pack.specs.Kernels.{kernelCount, codeCount, allLie, soundPack}
+use Rattle.pack.specs.Kernels.{kernelCount, codeCount, soundPack}
 use Rattle.replay.specs.Transcript.{linesOf, linesFrom, allLines, emptyPipe, firstCall, freshFor, playedOn, jobText}
 use Rattle.replay.specs.WholeCase.{WholeCase}
 use Rattle.replay.proofs.JobText.{accepted-text}
+use Rattle.words.specs.Choice.{allBelow}
 
 pub whole-case : WholeCase
-unfolding wholeCase bytesOf digits decimal lineOf turnLine idleLine freshDevice ringOf slotOf withRing withSlots emittedIn withMarker windowFits memoryFits windowsFit ringSound stateSound ringFits ringsFit verdictOf readyWith readyWhere readyAt nextRing seek bytesOfRing pickOf untakenOf sumOf untakenIn freshOf valuesOf unchanged fenceOf emitTo ringAfter deviceAfter reportOf finished servedOf pickedOf judgedOf verdictOn turnOf rowOf waitSize payloadSize targetAt commandAt isWhole unknownOpcode wrongPayloadBit noSuchSlot headerFault heldFault isRectangle slotFault misaligned unframed outside unfitFrame unfitDispatch checkOf emits wordsRead leaves workOf orElse faultOf guarded performedOf wordAt windowOf putBack kernelCount codeCount allLie soundPack linesOf linesFrom allLines emptyPipe firstCall freshFor playedOn jobText
+unfolding wholeCase bytesOf digits decimal lineOf turnLine idleLine freshDevice ringOf slotOf withRing withSlots emittedIn withMarker windowFits memoryFits windowsFit ringSound stateSound ringFits ringsFit verdictOf readyWith readyWhere readyAt nextRing seek bytesOfRing pickOf untakenOf sumOf untakenIn freshOf valuesOf unchanged fenceOf emitTo ringAfter deviceAfter reportOf finished servedOf pickedOf judgedOf verdictOn turnOf rowOf waitSize payloadSize targetAt commandAt isWhole unknownOpcode wrongPayloadBit noSuchSlot headerFault heldFault isRectangle slotFault misaligned unframed outside unfitFrame unfitDispatch checkOf emits wordsRead leaves workOf orElse faultOf guarded performedOf wordAt windowOf putBack kernelCount codeCount allBelow soundPack linesOf linesFrom allLines emptyPipe firstCall freshFor playedOn jobText
 whole-case = rw (accepted-text wholeCase its-parts)

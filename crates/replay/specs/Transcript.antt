@@ -12,7 +12,7 @@ use Rattle.device.specs.declared.turn.Answer.{Answer}
 use Rattle.device.specs.declared.turn.Answer.the-variants.{Served, Idle, Refused as RefusedTurn}
 use Rattle.device.specs.declared.turn.Report.{Report}
 use Rattle.state.specs.Device.{Shaped}
-use Rattle.device.specs.Answer.{answerNumber, valuesOf, makingNumber}
+use Rattle.device.specs.Answer.{answerNumber, makingNumber, reportValues}
 use Rattle.device.specs.Fresh.{freshOf}
 use Rattle.device.specs.Turn.{Call, ringIn, callOf, TurnEnd, turnOf}
 use Rattle.device.specs.Untaken.{untakenIn}
@@ -27,7 +27,7 @@ use Rattle.spelling.specs.Line.{turnLine, idleLine, refusedLine}
 -- the line of a served turn: turn, ring, outcome, fence, words read
 abbrev pub servedLine : ℕ → Report → List ℕ
 servedLine turn report =
-    let v = valuesOf (Served report) in
+    let v = reportValues report in
     turnLine turn (v .ring) (v .outcome) (v .fence) (v .words)
 
 -- the lines from an answer on: a served turn's line and then the rest, or the last line; `turns` were taken before
@@ -38,15 +38,15 @@ linesOf turns (RefusedTurn why) rest = refusedLine (answerNumber (RefusedTurn wh
 
 -- the next call: the same rings and pack, and the memory and pipe that the turn leaves
 abbrev pub nextCall : Call → TurnEnd → Call
-nextCall call after =
-    callOf (after .memory) (call .ring0) (call .ring1) (call .ring2) (call .ring3) (call .pack) (after .pipe)
+nextCall call end =
+    callOf (end .memory) (call .ring0) (call .ring1) (call .ring2) (call .ring3) (call .pack) (end .pipe)
 
 -- the lines of at most so many turns
 unfoldable pub linesFrom : ℕ → ℕ → Device → Call → List ℕ
 linesFrom zero turns d call = []
 linesFrom (suc most) turns d call =
-    let after = turnOf d call in
-    linesOf turns (after .turned .answer) (linesFrom most (turns + 1) (after .turned .device) (nextCall call after))
+    let end = turnOf d call in
+    linesOf turns (end .turned .answer) (linesFrom most (turns + 1) (end .turned .device) (nextCall call end))
 
 -- the lines of all turns: each served turn takes bytes of a ring, so there are no more turns than one more than the untaken bytes
 unfoldable pub allLines : ℕ → Device → Call → List ℕ

@@ -108,3 +108,12 @@ module _ (x : ℕ) (p : 0 < x) (h : x < 2 ^ 32) where
 
   pub ctz-clear : (i : ℕ) → i < ctzOf x → bit i x ≡ 0
   ctz-clear = low-clear 32 x p h
+
+-- of 0 there is none: 32
+pub clz-zero : clzOf 0 ≡ 32
+unfolding firstSet
+clz-zero = refl
+
+pub ctz-zero : ctzOf 0 ≡ 32
+unfolding firstSet
+ctz-zero = refl

@@ -17,9 +17,9 @@ use Rattle.work.specs.Perform.{orElse, faultOf}
 use Rattle.words.proofs.Choices.{same-tests}
 
 -- a chain of faults that gives none: its first test does not hold, and the rest gives none
-either-done : (b : Bool) (fault rest : Outcome) → isDone fault ≡ false → isDone (cond b fault rest) ≡ true → (b ≡ false) × (isDone rest ≡ true)
-either-done true fault rest is-fault e = (cc, cc)
-either-done false fault rest is-fault e = (refl, e)
+cond-done : (b : Bool) (fault rest : Outcome) → isDone fault ≡ false → isDone (cond b fault rest) ≡ true → (b ≡ false) × (isDone rest ≡ true)
+cond-done true fault rest is-fault e = (cc, cc)
+cond-done false fault rest is-fault e = (refl, e)
 
 or-else-done : (fault next : Outcome) → isDone (orElse fault next) ≡ true → (isDone fault ≡ true) × (isDone next ≡ true)
 unfolding orElse
@@ -33,17 +33,17 @@ or-else-done fault next e = go (isDone fault) refl e
 pub payload-as-in-table : (c : Command) → isDone (headerFault c) ≡ true → payloadBit (c .flags) ≡ rowOf (c .opcode) .payload
 unfolding headerFault wrongPayloadBit
 payload-as-in-table c fine =
-    let known = either-done (unknownOpcode c) UnknownOpcode _ refl fine .1 in
-    let plain = either-done (reservedBit (c .flags)) ReservedFlag _ refl known .1 in
-    same-tests _ _ (either-done (wrongPayloadBit c) WrongPayloadBit _ refl plain .0)
+    let known = cond-done (unknownOpcode c) UnknownOpcode _ refl fine .1 in
+    let plain = cond-done (reservedBit (c .flags)) ReservedFlag _ refl known .1 in
+    same-tests _ _ (cond-done (wrongPayloadBit c) WrongPayloadBit _ refl plain .0)
 
 -- no byte is outside the window
 pub not-outside : (c : Command) (length : ℕ) (frame : Frame) (pack : List ℕ) → isDone (checkOf c length frame pack) ≡ true → outside c length frame ≡ false
 unfolding checkOf
 not-outside c length frame pack fine =
-    let aligned = either-done (misaligned c) Misaligned _ refl fine .1 in
-    let framed = either-done (unframed c frame) NoFrame _ refl aligned .1 in
-    either-done (outside c length frame) OutsideTheWindow _ refl framed .0
+    let aligned = cond-done (misaligned c) Misaligned _ refl fine .1 in
+    let framed = cond-done (unframed c frame) NoFrame _ refl aligned .1 in
+    cond-done (outside c length frame) OutsideTheWindow _ refl framed .0
 
 module _ (c : Command) (full : Bool) (length : ℕ) (frame : Frame) (pack : List ℕ) (fine : isDone (faultOf c full length frame pack) ≡ true) where
   pub header-done : isDone (headerFault c) ≡ true

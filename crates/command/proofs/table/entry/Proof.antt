@@ -7,7 +7,8 @@ use lib.Dec.{eqb}
 use lib.ListN.{getD, replicate}
 use borrow.Author.Tests.{eqb-true}
 use Rattle.command.specs.Table.{entryOf, rowOf}
-use Rattle.words.proofs.EachBelow.{every-below}
+use Rattle.words.specs.Choice.{allBelow}
+use Rattle.words.proofs.EachBelow.{each-below}
 use borrow.Author.Needs.{needs}
 use Rattle.command.proofs.table.entry.Statement.{statement}
 use Rattle.command.proofs.table.entry.Tie as tie
@@ -26,8 +27,8 @@ array-read-result : tie.Need-array-read-result
 array-read-result c = search needs
 
 returns : tie.Need-returns
-unfolding table right entryOf rowOf
-returns c = eqb-true _ _ (every-below right 256 refl (c .args .opcode) (search needs))
+unfolding table right entryOf rowOf allBelow
+returns c = eqb-true _ _ (each-below right 256 refl (c .args .opcode) (search needs))
 
 pub entry-spec : {M : Type 1} → statement M
 entry-spec = tie.close (tie.spec array-read-result returns)

@@ -2,7 +2,7 @@
 use Rattle.device.proofs.Windows.{lent-window, lent-back}
 use denote.Ref.{now}
 use Rattle.command.proofs.Sizes.{payload-inside}
-use Rattle.device.proofs.Wholes.{whole-inside}
+use Rattle.command.proofs.Sizes.{whole-inside}
 use native.Mathlib.Omega.{arith}
 use Rattle.device.specs.Turn.{servedOf}
 use borrow.Author.Needs.{needs}

@@ -3,7 +3,7 @@ use denote.Ref.{now}
 use lib.ListN.{length}
 use Rattle.device.specs.Turn.{turnOf, verdictOn, judgedOf, pickedOf, unchanged}
 use Rattle.device.proofs.Verdicts.{steady, servable}
-use mathlib.Core.Path.{refl}
+use mathlib.Core.Path.{refl, sym, _∙_}
 use borrow.Author.Needs.{needs}
 use Rattle.device.proofs.turn.turn.Statement.{statement}
 use Rattle.device.proofs.turn.turn.Tie as tie
@@ -25,20 +25,13 @@ pick-requires : tie.Need-pick-requires
 pick-requires c κs =
     let s = c .before .before .before .before .before .before .before .before .before .before .args in
     steady (s .d) (length (now (s .mem))) (now (s .r0)) (now (s .r1)) (now (s .r2)) (now (s .r3)) (length (now (s .pipe))) (now (s .pack))
-    (rw (← c .before .before .judge .ensures) (c .enum-told .given .1))
+    (sym (c .before .before .judge .ensures) ∙ c .enum-told .given .1)
 
 enum-known-q : tie.Need-enum-known-q
 enum-known-q c = search needs
 
-bytes-of-ring-requires : tie.Need-bytes-of-ring-requires
-bytes-of-ring-requires c κs = search needs
-
-serve-requires : tie.Need-serve-requires
-serve-requires c κs =
-    let s = c .before .before .before .before .before .before .before .before .before .before .before .before .before .before .before .before .before .args in
-    rw (c .before .before .bytes-of-ring .ensures)
-    (servable (s .d) (length (now (s .mem))) (now (s .r0)) (now (s .r1)) (now (s .r2)) (now (s .r3)) (length (now (s .pipe))) (now (s .pack))
-    (rw (← c .before .before .before .before .before .before .before .before .before .judge .ensures) (c .before .before .before .before .before .before .before .enum-told .given .1)) _ (rw (← c .before .before .before .before .before .before .pick .ensures) (c .before .before .before .before .q .given .1)))
+serve-picked-requires : tie.Need-serve-picked-requires
+serve-picked-requires c κs = servable _ _ _ _ _ _ _ _ (sym (c .before .before .before .before .before .before .before .before .judge .ensures) ∙ c .before .before .before .before .before .before .enum-told .given .1) _ (sym (c .before .before .before .before .before .pick .ensures) ∙ c .before .before .before .q .given .1)
 
 enum-told-2 : tie.Need-enum-told-2
 enum-told-2 c = search needs
@@ -51,7 +44,7 @@ same-length-2 c = search needs
 
 returns-2 : tie.Need-returns-2
 unfolding turnOf verdictOn judgedOf pickedOf
-returns-2 c = rw (← c .before .before .before .before .before .before .before .before .before .before .before .before .before .before .judge .ensures, c .before .before .before .before .before .before .before .before .before .before .before .before .enum-told .given .1, ← c .before .before .before .before .before .before .before .before .before .before .before .pick .ensures, c .before .before .before .before .before .before .before .before .before .q .given .1, ← c .before .before .before .before .before .before .before .bytes-of-ring .ensures) (c .before .before .before .before .serve .ensures)
+returns-2 c = rw (← c .before .before .before .before .before .before .before .before .before .before .before .before .before .judge .ensures, c .before .before .before .before .before .before .before .before .before .before .before .enum-told .given .1, ← c .before .before .before .before .before .before .before .before .before .before .pick .ensures, c .before .before .before .before .before .before .before .before .q .given .1) (c .before .before .before .before .serve-picked .ensures)
 
 returns-3 : tie.Need-returns-3
 unfolding turnOf verdictOn judgedOf pickedOf unchanged
@@ -67,8 +60,7 @@ turn-spec =
     returns
     pick-requires
     enum-known-q
-    bytes-of-ring-requires
-    serve-requires
+    serve-picked-requires
     enum-told-2
     same-length
     same-length-2

@@ -5,7 +5,8 @@ use native.Mathlib.Numerals.{add-one}
 use native.Mathlib.Omega.{arith}
 use native.Mathlib.Nat.{le-antisymm}
 use borrow.Author.Needs.{needs}
-use Rattle.job.specs.Kernels.{hasWord, allBelow}
+use Rattle.words.specs.Choice.{allBelow}
+use Rattle.job.specs.Kernels.{hasWord}
 use Rattle.job.proofs.kernels.all_have_words.Statement.{statement}
 use Rattle.job.proofs.kernels.all_have_words.Tie as tie
 

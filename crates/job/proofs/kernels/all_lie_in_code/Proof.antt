@@ -5,7 +5,8 @@ use native.Mathlib.Numerals.{add-one}
 use native.Mathlib.Omega.{arith}
 use native.Mathlib.Nat.{le-antisymm}
 use borrow.Author.Needs.{needs}
-use Rattle.job.specs.Kernels.{liesInCode, allBelow}
+use Rattle.words.specs.Choice.{allBelow}
+use Rattle.job.specs.Kernels.{liesInCode}
 use Rattle.job.proofs.kernels.all_lie_in_code.Statement.{statement}
 use Rattle.job.proofs.kernels.all_lie_in_code.Tie as tie
 

@@ -6,6 +6,7 @@ use native.Mathlib.Numerals.{add-one}
 use native.Mathlib.Omega.{arith}
 use native.Mathlib.Nat.{le-antisymm}
 use borrow.Author.Needs.{needs}
+use Rattle.words.specs.Choice.{allBelow}
 use Rattle.pack.specs.Kernels.{allLie}
 use Rattle.pack.proofs.kernels.all_lie.Statement.{statement}
 use Rattle.pack.proofs.kernels.all_lie.Tie as tie
@@ -17,7 +18,7 @@ abbrev μ-loop : tie.MeasureT-loop
 μ-loop pack n all₀ k₀ all k = n - k
 
 loop-holds : tie.Need-loop-holds Inv-loop μ-loop
-unfolding allLie
+unfolding allBelow
 loop-holds c = (omega arith, refl)
 
 lies-in-code-requires : tie.Need-lies-in-code-requires Inv-loop μ-loop
@@ -33,7 +34,7 @@ loop-less : tie.Need-loop-less Inv-loop μ-loop
 loop-less c = omega arith
 
 loop-again : tie.Need-loop-again Inv-loop μ-loop
-unfolding allLie
+unfolding allBelow
 loop-again c = (omega arith, rw (add-one, c .both .ensures, c .before .lies-in-code .ensures, c .before .before .before .loop .inv .1))
 
 returns : tie.Need-returns Inv-loop μ-loop
