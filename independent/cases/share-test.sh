@@ -1,6 +1,6 @@
 #!/bin/sh
-# share-test.sh BUILD: a comparison must fail where no turn is served, or few are, though nothing differs. Each program
-# is built with the device as it is, with one that refuses all turns, and with one that refuses most.
+# share-test.sh BUILD: a comparison must fail where no turn is served, or few are, or no device is made, though nothing
+# differs. Each program is built with the device as it is, and with ones that refuse all turns, most turns, and all makings.
 # BUILD: the folder of this folder's objects; CC, CFLAGS and LDFLAGS as for make.
 set -eu
 top=$(cd "$(dirname "$(readlink -f "$0")")/.." && pwd -P)
@@ -9,6 +9,7 @@ work=$build/share-test
 mkdir -p "$work"
 wrong=0
 asked='if (memory_refused(device, lent->memory_len))'
+making='if (!memory_refused(device, memory_len))'
 objects=$(cd "$top" && find device cases -name '*.c' ! -path device/device.c ! -path device/replay.c |
     sed "s|^|$build/|; s|c\$|o|")
 
@@ -19,8 +20,8 @@ link() { # PROGRAM OBJECT..
     ${CC:-gcc} "$@" "$work/device.o" $objects ${LDFLAGS:-} -o "$work/$program"
 }
 
-build_with() { # TEXT: in the place of what is asked first of a turn
-    awk -v old="$asked" -v new="$1" '
+build_with() { # TEXT TEXT: the second in the place of the first
+    awk -v old="$1" -v new="$2" '
         { at = index($0, old) }
         at { $0 = substr($0, 1, at - 1) new substr($0, at + length(old)); made++ }
         { print }
@@ -51,22 +52,29 @@ try() { # STATUS END COMMAND..
 
 record() { "$work/record" 1 500 > "$work/calls"; }
 
-try_all() { # STATUS
+try_calls() { # STATUS
     try "$1" "" record
     try "$1" "500 calls, 0 differ" "$work/recordcheck" "$work/calls"
     try "$1" "500 calls, 0 differ" "$work/compare-self" 500 1
+}
+
+try_all() { # STATUS
+    try_calls "$1"
     try "$1" "500 cases, 0 differ" "$work/compare-runs" 500 1 "$work/replay"
 }
 
 echo "with the device as it is"
-build_with "$asked"
+build_with "$asked" "$asked"
 try_all 0
 echo "with one that refuses all turns"
-build_with "if (lent != NULL)"
+build_with "$asked" "if (lent != NULL)"
 try_all 1
 echo "with one that refuses most turns"
-build_with "if (lent->memory_len % 64 != 0 || memory_refused(device, lent->memory_len))"
+build_with "$asked" "if (lent->memory_len % 64 != 0 || memory_refused(device, lent->memory_len))"
 try_all 1
+echo "with one that makes no device"
+build_with "$making" "if (memory_len == UINT64_MAX && !memory_refused(device, memory_len))"
+try_calls 1
 rm -rf "$work"
-echo "12 runs, $wrong wrong"
+echo "15 runs, $wrong wrong"
 [ $wrong -eq 0 ]

@@ -8,7 +8,10 @@
 #include "cases/sights.h"
 #include "device/image.h"
 
-enum { REFUSALS = IND_REFUSED_PACK - IND_REFUSED_MEMORY + 1, OPCODES = 8 };
+enum {
+    REFUSALS = IND_REFUSED_PACK - IND_REFUSED_MEMORY + 1,
+    WRONGS = IND_WRONG_WINDOWS - IND_WRONG_IMAGE + 1, OPCODES = 8
+};
 
 static const struct {
     uint32_t opcode;
@@ -21,7 +24,7 @@ static const struct {
 };
 
 static struct {
-    uint64_t calls, fresh[2], idle, refused[REFUSALS], wrong[3];
+    uint64_t calls, fresh[2], idle, refused[REFUSALS], wrong[WRONGS];
     uint64_t outcome[IND_OUTCOMES], opcode_done[OPCODES], row[ROWS];
     uint64_t sight[SIGHTS], steps, most_steps;
 } count;
@@ -126,7 +129,7 @@ void tally_call(const struct call *before, const struct call *after)
     uint32_t answer = call_answer(after);
 
     count.calls++;
-    if (answer >= IND_WRONG_IMAGE) {
+    if (answer >= IND_WRONG_IMAGE && answer <= IND_WRONG_WINDOWS) {
         count.wrong[answer - IND_WRONG_IMAGE]++;
     } else if (after->kind == CALL_FRESH) {
         count.fresh[answer != 0]++;
@@ -178,7 +181,7 @@ static int table_of(FILE *out)
     missing += line(out, "idle", count.idle);
     missing += lines(out, "refused %u", IND_REFUSED_MEMORY, count.refused,
                      REFUSALS);
-    lines(out, "wrong length %u", IND_WRONG_IMAGE, count.wrong, 3);
+    lines(out, "wrong length %u", IND_WRONG_IMAGE, count.wrong, WRONGS);
     missing += lines(out, "outcome %u", 0, count.outcome, IND_OUTCOMES);
     title(out, "calls with outcome 0, by opcode");
     for (int i = 0; i < OPCODES; i++)

@@ -23,7 +23,7 @@ int main(int argc, char **argv)
     struct call *before = call_new(), *after = call_new();
     FILE *in = argc == 2 ? fopen(argv[1], "rb") : NULL;
     uint64_t calls = 0, different = 0;
-    struct share share = { 0, 0 };
+    struct share share = { 0 };
     int got = -1;
 
     if (in == NULL) {

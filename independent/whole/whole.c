@@ -28,7 +28,7 @@ int main(int argc, char **argv)
 {
     struct call *before = call_new(), *got = call_new(), *wanted = call_new();
     uint64_t count, seed, different = 0;
-    struct share share = { 0, 0 };
+    struct share share = { 0 };
 
     if (argc != 3 || !number_of(argv[1], &count)
         || !number_of(argv[2], &seed)) {

@@ -15,7 +15,13 @@ use state::device::Ring;
 // How many words a ring has.
 const RING_WORDS: usize = 7;
 
-// The words where the slots and the marker stand: after four rings, and after the 64 slots.
+// The words where rings 1 to 3 stand, then the slots and the marker.
+const RING_1_AT: usize = RING_WORDS;
+
+const RING_2_AT: usize = 2 * RING_WORDS;
+
+const RING_3_AT: usize = 3 * RING_WORDS;
+
 const SLOTS_AT: usize = 4 * RING_WORDS;
 
 const MARKER_AT: usize = SLOTS_AT + 64;
@@ -90,9 +96,9 @@ fn put_rings(image: &mut [u8], d: Device)
     ensures { λ _. ⌜ now (image .exit) ≡ sets (now (image .entry)) 0 (bytesOf (ringsWords d)) ⌝ }
 {
     put_ring(image, 0, d.ring(0));
-    put_ring(image, RING_WORDS, d.ring(1));
-    put_ring(image, 2 * RING_WORDS, d.ring(2));
-    put_ring(image, 3 * RING_WORDS, d.ring(3));
+    put_ring(image, RING_1_AT, d.ring(1));
+    put_ring(image, RING_2_AT, d.ring(2));
+    put_ring(image, RING_3_AT, d.ring(3));
 }
 
 pub fn put_device(image: &mut [u8], d: Device)
@@ -153,9 +159,9 @@ pub fn device_in(image: &[u8]) -> Device
 {
     let rings = [
         ring_at(image, 0),
-        ring_at(image, RING_WORDS),
-        ring_at(image, 2 * RING_WORDS),
-        ring_at(image, 3 * RING_WORDS),
+        ring_at(image, RING_1_AT),
+        ring_at(image, RING_2_AT),
+        ring_at(image, RING_3_AT),
     ];
     Device::of(rings, slots_of(image), word_in(image, MARKER_AT))
 }
