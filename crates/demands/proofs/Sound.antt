@@ -23,14 +23,14 @@ use Rattle.state.specs.Device.{emptyWindow, freshDevice, ringOf, slotOf, limitO
 use Rattle.device.specs.Answer.{answerNumber}
 use Rattle.state.specs.Refusal.{refusalNumber, windowFits, memoryFits, windowsFit, ringSound, stateSound, verdictOf}
 use Rattle.device.specs.Fresh.{freshOf}
-use Rattle.device.specs.Turn.{Call, unchanged, ringAfter, reportOf, finished, servedOf, judgedOf, verdictOn, turnOf, ringIn, pickIn}
+use Rattle.device.specs.Turn.{Call, unchanged, ringAfter, reportOf, finished, servedOf, verdictOn, ringIn, pickIn}
 use Rattle.state.proofs.Seeks.{next-below}
 use Rattle.device.proofs.Verdicts.{all-four}
 use Rattle.command.proofs.Sizes.{whole-inside}
 use Rattle.demands.specs.Calls.{headIn, answerOf, leftBy, none, more}
 use Rattle.demands.specs.EachStep.{windowIn}
 use Rattle.demands.specs.Sound.{StaysSound, TurnStaysSound, RefusedForLent, SoundRefusals, FreshMakesSound, CallsStaySound, FreshStaysSound, MakesSound, lentRingsFit}
-use Rattle.device.proofs.Turns.{servedIn, turn-cases, picked-servable}
+use Rattle.device.proofs.Turns.{servedIn, turn-cases, picked-servable, turn-refused}
 use Rattle.demands.proofs.Turns.{workIn}
 use Rattle.demands.proofs.Devices.{after-marker, after-ring, after-windows}
 use Rattle.state.specs.Slots.{isFull}
@@ -100,8 +100,8 @@ module _ (d : Device) (call : Call) where
 
   -- a refused call's number is its refusal's
   refused-number : {why : Refusal} → verdictOn d call ≡ Refused why → answerNumber (answerOf d call) ≡ refusalNumber why
-  unfolding turnOf judgedOf unchanged
-  refused-number e = ap (λ v. answerNumber (judgedOf d call v .turned .answer)) e
+  unfolding unchanged
+  refused-number {why} e = ap (λ end. answerNumber (end .turned .answer)) (turn-refused d call why e)
 
   -- one that is not refused is idle or served
   heard-number : verdictOn d call ≡ Sound → answerNumber (answerOf d call) ≤ 1

@@ -1,6 +1,6 @@
 -- A turn is refused, idle or served, and what a served ring has.
 -- Assumes nothing.
-use mathlib.Core.Path.{_≡_, refl}
+use mathlib.Core.Path.{_≡_, refl, ap}
 use Prim.Native.Nat.{ℕ}
 use lib.ListN.{length}
 use Rattle.state.specs.declared.device.Device.{Device}
@@ -34,6 +34,11 @@ turn-cases d call P refused idle served = judged (verdictOn d call) refl
     judged : (v : Verdict) → verdictOn d call ≡ v → P (judgedOf d call v)
     judged Sound e = picked e (pickIn d call) refl
     judged (Refused why) e = refused why e
+
+-- a refused call
+pub turn-refused : (d : Device) (call : Call) (why : Refusal) → verdictOn d call ≡ Refused why → turnOf d call ≡ unchanged d call (RefusedFor why)
+unfolding turnOf judgedOf
+turn-refused d call why e = ap (judgedOf d call) e
 
 -- a call that is not refused finds the marker among the rings, and cursors that fit
 pub call-steady : (d : Device) (call : Call) → verdictOn d call ≡ Sound → Steady d
