@@ -1,11 +1,10 @@
 -- How many calls of each kind were made again, and how many differ. Each count is a word.
-use Prim.Native.Nat.{ℕ}
-use mathlib.Core.Bool.{Bool, true, false}
-use lib.Dec.{eqb}
+use Prim.Native.Nat.{ℕ, _+_, _*_}
+use mathlib.Core.Bool.{Bool, true, false, cond, _&&_}
+use lib.Dec.{eqb, leb}
 use Rattle.words.specs.Arithmetic.{sum}
-use Rattle.words.specs.Choice.{either}
-use Rattle.compare.specs.declared.tally.Seen.{Seen}
-use Rattle.compare.specs.declared.tally.Seen.the-variants.{Fresh, Turn, Damaged}
+use Rattle.recorded.specs.declared.call.Seen.{Seen}
+use Rattle.recorded.specs.declared.call.Seen.the-variants.{Fresh, Turn, Damaged}
 use Rattle.compare.specs.declared.tally.Tally.{Tally}
 
 -- of these counts
@@ -24,8 +23,8 @@ withFresh t = tallyOf (more (t .fresh)) (t .served) (t .idle) (t .refused) (t .d
 -- one more turn: status 0 is served, 1 idle, any other refused
 unfoldable pub withTurn : Tally → ℕ → Tally
 withTurn t status =
-    either (eqb status 0) (tallyOf (t .fresh) (more (t .served)) (t .idle) (t .refused) (t .differ))
-    (either (eqb status 1) (tallyOf (t .fresh) (t .served) (more (t .idle)) (t .refused) (t .differ))
+    cond (eqb status 0) (tallyOf (t .fresh) (more (t .served)) (t .idle) (t .refused) (t .differ))
+    (cond (eqb status 1) (tallyOf (t .fresh) (t .served) (more (t .idle)) (t .refused) (t .differ))
     (tallyOf (t .fresh) (t .served) (t .idle) (more (t .refused)) (t .differ)))
 
 -- one more that differs, unless it is the same
@@ -38,3 +37,7 @@ unfoldable pub counted : Tally → Seen → Tally
 counted t (Fresh same) = judged (withFresh t) same
 counted t (Turn status same) = judged (withTurn t status) same
 counted t Damaged = judged t false
+
+-- a turn was served, and at least a tenth of the turns were
+unfoldable pub enoughServed : Tally → Bool
+enoughServed t = leb 1 (t .served) && leb (t .served + t .idle + t .refused) (10 * t .served)

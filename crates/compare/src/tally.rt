@@ -1,15 +1,10 @@
 // How many calls of each kind were made again, and how many differ.
 ghost use mathlib.Core.Path.{_≡_};
-ghost use Rattle.compare.specs.Tally.{tallyOf, withTurn, judged, counted};
+ghost use Rattle.compare.specs.Tally.{tallyOf, withTurn, judged, counted, enoughServed};
 use libc::STDOUT_FILENO;
+use recorded::call::Seen;
 use words::arithmetic::add;
-
-// What became of one recorded call. The status is that of a report: 0 served, 1 idle, else refused.
-pub enum Seen {
-    Fresh(bool),
-    Turn(u32, bool),
-    Damaged,
-}
+use words::choice::both;
 
 pub struct Tally {
     fresh: u32,
@@ -68,17 +63,28 @@ impl Tally {
         }
     }
 
+    // Whether enough turns were served: what serves nothing shows nothing.
+    fn is_enough(self) -> bool
+        ensures { λ r. ⌜ r ≡ enoughServed self ⌝ }
+    {
+        let served = self.served as u64;
+        let turns = served + self.idle as u64 + self.refused as u64;
+        both(1 <= served, turns <= 10 * served)
+    }
+
     pub fn print(self) {
-        print_count(b"fresh ", self.fresh, b", ");
-        print_count(b"served ", self.served, b", ");
-        print_count(b"idle ", self.idle, b", ");
-        print_count(b"refused ", self.refused, b"; ");
-        print_count(b"", self.differ, b" differ\n");
+        print_count(self.fresh, b" fresh\n");
+        print_count(self.served, b" served\n");
+        print_count(self.idle, b" idle\n");
+        print_count(self.refused, b" refused\n");
+        print_count(self.differ, b" differ\n");
+        if !self.is_enough() {
+            io::write_all(STDOUT_FILENO, b"too few served\n");
+        }
     }
 }
 
-fn print_count(before: &[u8], count: u32, after: &[u8]) {
-    io::write_all(STDOUT_FILENO, before);
+fn print_count(count: u32, what: &[u8]) {
     io::print_decimal(STDOUT_FILENO, count as u64);
-    io::write_all(STDOUT_FILENO, after);
+    io::write_all(STDOUT_FILENO, what);
 }

@@ -1,6 +1,5 @@
 -- `compare::tally::Tally::with_turn` meets its contract. Assumes nothing.
 use borrow.Author.Tests.{eq-eqb, ne-eqb}
-use Rattle.words.specs.Choice.{either}
 use Rattle.compare.specs.Tally.{withTurn}
 use borrow.Author.Needs.{needs}
 use Rattle.compare.proofs.tally.Tally.with_turn.Statement.{statement}
@@ -16,15 +15,15 @@ add-requires-3 : tie.Need-add-requires-3
 add-requires-3 c κs = search needs
 
 returns : tie.Need-returns
-unfolding withTurn either
+unfolding withTurn
 returns c = rw (eq-eqb _ _ (c .before .if1 .taken), c .add .ensures)
 
 returns-2 : tie.Need-returns-2
-unfolding withTurn either
+unfolding withTurn
 returns-2 c = rw (ne-eqb _ _ (c .before .before .if1 .left), eq-eqb _ _ (c .before .if2 .taken), c .add2 .ensures)
 
 returns-3 : tie.Need-returns-3
-unfolding withTurn either
+unfolding withTurn
 returns-3 c = rw (ne-eqb _ _ (c .before .before .if1 .left), ne-eqb _ _ (c .before .if2 .left), c .add3 .ensures)
 
 pub with-turn-spec : {M : Type 1} → statement M

@@ -1,0 +1,43 @@
+-- `recorded::fresh::are_whole` meets its contract. Assumes nothing.
+use Rattle.recorded.specs.Fresh.{areWhole}
+use borrow.Author.Needs.{needs}
+use Rattle.recorded.proofs.fresh.are_whole.Statement.{statement}
+use Rattle.recorded.proofs.fresh.are_whole.Tie as tie
+
+length-of-requires : tie.Need-length-of-requires
+length-of-requires c κs = search needs
+
+length-of-requires-2 : tie.Need-length-of-requires-2
+length-of-requires-2 c κs = search needs
+
+both-requires : tie.Need-both-requires
+both-requires c κs = search needs
+
+length-of-requires-3 : tie.Need-length-of-requires-3
+length-of-requires-3 c κs = search needs
+
+length-of-requires-4 : tie.Need-length-of-requires-4
+length-of-requires-4 c κs = search needs
+
+both-requires-2 : tie.Need-both-requires-2
+both-requires-2 c κs = search needs
+
+both-requires-3 : tie.Need-both-requires-3
+both-requires-3 c κs = search needs
+
+returns : tie.Need-returns
+unfolding areWhole
+returns c = rw (c .both3 .ensures, c .before .both2 .ensures, c .before .before .before .before .both .ensures, c .before .before .length-of4 .ensures, c .before .before .before .length-of3 .ensures, c .before .before .before .before .before .length-of2 .ensures, c .before .before .before .before .before .before .length-of .ensures)
+
+pub are-whole-spec : {M : Type 1} → statement M
+are-whole-spec =
+    tie.close
+    (tie.spec
+    length-of-requires
+    length-of-requires-2
+    both-requires
+    length-of-requires-3
+    length-of-requires-4
+    both-requires-2
+    both-requires-3
+    returns)

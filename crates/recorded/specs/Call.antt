@@ -1,0 +1,14 @@
+-- A recorded call, made again.
+use Prim.Native.Nat.{ℕ}
+use mathlib.Core.Bool.{cond}
+use mathlib.Core.List.{List}
+use lib.Dec.{eqb}
+use Rattle.memory.specs.Place.{wordAt}
+use Rattle.recorded.specs.declared.call.Seen.{Seen}
+use Rattle.recorded.specs.declared.call.Seen.the-variants.{Damaged}
+use Rattle.recorded.specs.Fresh.{freshSeen}
+use Rattle.recorded.specs.Turn.{turnSeen}
+
+-- by its first word: 0 makes a fresh device, 1 is a turn, any other is damaged
+unfoldable pub callSeen : List ℕ → Seen
+callSeen body = cond (eqb (wordAt body 0) 0) (freshSeen body) (cond (eqb (wordAt body 0) 1) (turnSeen body) Damaged)

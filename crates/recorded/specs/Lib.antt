@@ -1,0 +1,4 @@
+pub mod Piece
+pub mod Fresh
+pub mod Turn
+pub mod Call
