@@ -1,5 +1,5 @@
 // A recorded call of a device, made again and held to what was recorded.
 pub mod call;
-pub mod fresh;
-pub mod piece;
-pub mod turn;
+mod fresh;
+mod piece;
+mod turn;

@@ -1,6 +1,5 @@
 // A recorded turn.
 ghost use mathlib.Core.Path.{_≡_};
-ghost use Rattle.capi.specs.Calls.{Called};
 ghost use Rattle.recorded.specs.Turn.{hasRoom, turnRecorded, calledOf, madeSeen, turnSeen, Laid};
 use crate::call::Seen;
 use crate::piece::is_same;

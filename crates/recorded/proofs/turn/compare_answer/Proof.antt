@@ -26,7 +26,7 @@ same-length-3 : tie.Need-same-length-3
 same-length-3 c = search needs
 
 returns : tie.Need-returns
-returns c = let l = c .before .before .before .before .before .before .before .before .before .before .before .before .before .before .before .before .before .before .before .before .before .before .before .before .before .before .pre in made _ (l .image) (l .memory) (l .ring0) (l .ring1) (l .ring2) (l .ring3) (l .pack) (l .pipe) (c .before .before .before .before .before .before .before .before .before .before .before .before .turn-call .ensures) _ (c .is-recorded .ensures)
+returns c = made (c .before .before .before .before .before .before .before .before .before .before .before .before .before .before .before .before .before .before .before .before .before .before .before .before .before .before .pre) (c .before .before .before .before .before .before .before .before .before .before .before .before .turn-call .ensures) _ (c .is-recorded .ensures)
 
 pub compare-answer-spec : {M : Type 1} → statement M
 compare-answer-spec =
