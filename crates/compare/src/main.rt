@@ -14,9 +14,9 @@ const BODY_ROOM: usize = 262144;
 
 fn compare_all(fd: i32, body: &mut [u8]) -> Tally {
     let mut tally = Tally::none();
-    let mut left = MOST_CALLS;
-    while 0 < left {
-        left -= 1;
+    let mut unread = MOST_CALLS;
+    while 0 < unread {
+        unread -= 1;
         let n = record::next(fd, body);
         if n == 0 {
             break;

@@ -142,7 +142,7 @@ module _ (q : ℕ) (b : List ℕ) (k : ℕ) where
         go further (refused r kept) = later (further j (leftBy d call) (rw kept w) each (omega (arith, rw r at enough)))
         go further (serves s) = here (w .cursor) s
         go further (nearer i r less w′) =
-            let left : j < 1 + heard (leftBy d call) calls = rw r at enough in
+            let enough-more : j < 1 + heard (leftBy d call) calls = rw r at enough in
             later (further i (leftBy d call) w′ each (omega arith))
 
 -- a refused call leaves the device, and another finds the marker among the rings

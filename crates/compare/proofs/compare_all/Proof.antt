@@ -6,10 +6,10 @@ use Rattle.compare.proofs.compare_all.Statement.{statement}
 use Rattle.compare.proofs.compare_all.Tie as tie
 
 abbrev Inv-loop : tie.InvT-loop
-Inv-loop fd body₀ tally₀ left₀ body tally left = length body ≡ length body₀
+Inv-loop fd body₀ tally₀ unread₀ body tally unread = length body ≡ length body₀
 
 abbrev μ-loop : tie.MeasureT-loop
-μ-loop fd body₀ tally₀ left₀ body tally left = left
+μ-loop fd body₀ tally₀ unread₀ body tally unread = unread
 
 none-requires : tie.Need-none-requires Inv-loop μ-loop
 none-requires c κs = search needs
@@ -17,8 +17,8 @@ none-requires c κs = search needs
 loop-holds : tie.Need-loop-holds Inv-loop μ-loop
 loop-holds c = refl
 
-sub-left : tie.Need-sub-left Inv-loop μ-loop
-sub-left c = search needs
+sub-unread : tie.Need-sub-unread Inv-loop μ-loop
+sub-unread c = search needs
 
 next-requires : tie.Need-next-requires Inv-loop μ-loop
 next-requires c κs = search needs
@@ -61,7 +61,7 @@ compare-all-spec =
     μ-loop
     none-requires
     loop-holds
-    sub-left
+    sub-unread
     next-requires
     slice-reshare-prefix-compare
     slice-aggregate-compare
