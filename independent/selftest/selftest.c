@@ -212,6 +212,7 @@ int main(void)
     test_kernels();
     test_replay();
     test_image();
+    test_nulls();
     puts("selftest: every check holds");
     return 0;
 }
