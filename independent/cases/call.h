@@ -31,7 +31,7 @@ struct piece {
 
 struct call {
     enum call_kind kind;
-    int nulls; /* an empty piece is lent as NULL, else as a pointer to no bytes */
+    int nulls; /* an empty piece is lent as NULL, not as its pointer */
     struct piece pieces[PIECES];
 };
 
