@@ -118,8 +118,9 @@ enum {
 };
 
 /* ---- the calls ----
- * Each piece is a pointer and its length in bytes. No pointer may be null, of a
- * piece of length 0 neither. A piece that a call changes may overlap no other. */
+ * Each piece is a pointer and its length in bytes. A piece of length 0 may be NULL.
+ * No byte of it is read or written, so a ring that is not used can stay {0}. A piece
+ * that a call changes may overlap no other. */
 
 /* Puts a fresh device into an image: slots, cursors and marker 0, frames unset.
  *   image          FV_IMAGE_BYTES; what it held does not matter
@@ -262,8 +263,9 @@ static inline size_t fv_pack_bytes(const struct fv_kernel *kernels, uint32_t cou
     return bytes;
 }
 
-/* Puts the kernels one after another, each with its place in the row as its number.
- * Gives the pack's length, or 0 and puts nothing if there is no room. */
+/* Puts the kernels one after another, each with its place in the row as its number;
+ * `kernels` may be NULL if there are none. Gives the pack's length, or 0 and puts
+ * nothing if there is no room. */
 static inline size_t fv_put_pack(uint8_t *bytes, size_t room, const struct fv_kernel *kernels, uint32_t count)
 {
     uint8_t *at = bytes;
@@ -286,7 +288,8 @@ static inline size_t fv_put_pack(uint8_t *bytes, size_t room, const struct fv_ke
 /* ---- command bytes ---- */
 
 /* A ring that is being written: `length` bytes of commands stand at `bytes`. The
- * device goes over them once; more may be appended between turns. */
+ * device goes over them once; more may be appended between turns. A ring of {0} is
+ * empty and has no room. */
 struct fv_ring {
     uint8_t *bytes;
     size_t length, room;
@@ -319,7 +322,7 @@ static inline size_t fv_command_bytes(const struct fv_command *command)
 static inline int fv_append(struct fv_ring *ring, const struct fv_command *command)
 {
     size_t size = fv_command_bytes(command);
-    uint8_t *at = ring->bytes + ring->length;
+    uint8_t *at;
     const uint32_t header[4] = {command->opcode | command->flags << 8 | command->rdst << 16
                                     | (uint32_t)command->len << 24,
                                 command->arg0, command->arg1, command->arg2};
@@ -328,7 +331,7 @@ static inline int fv_append(struct fv_ring *ring, const struct fv_command *comma
         return 0;
     if (ring->room - ring->length < size)
         return 0;
-    at = fv_put_words(at, header, 4);
+    at = fv_put_words(ring->bytes + ring->length, header, 4);
     if (command->flags & FV_FLAG_WAIT)
         at = fv_put_words(at, &command->target, 1);
     if (command->flags & FV_FLAG_PAYLOAD)

@@ -102,6 +102,7 @@ void piece_add_word(struct piece *piece, uint32_t word)
 void call_start(struct call *call, enum call_kind kind)
 {
     call->kind = kind;
+    call->nulls = 0;
     for (int i = 0; i < PIECES; i++)
         piece_end(&call->pieces[i], 0);
     piece_zeros(&call->pieces[PIECE_DEVICE], IND_IMAGE_BYTES);
@@ -118,6 +119,7 @@ void call_start(struct call *call, enum call_kind kind)
 void call_copy(struct call *to, const struct call *from)
 {
     to->kind = from->kind;
+    to->nulls = from->nulls;
     for (int i = 0; i < PIECES; i++) {
         to->pieces[i].length = from->pieces[i].length;
         memcpy(to->pieces[i].bytes, from->pieces[i].bytes,
@@ -137,7 +139,22 @@ uint32_t call_answer(const struct call *call)
     return get_word(call->pieces[PIECE_ANSWER].bytes);
 }
 
-#define LENT(piece) call->pieces[piece].bytes, call->pieces[piece].length
+int call_lends_empty(const struct call *call, int piece)
+{
+    int lends = call->kind == CALL_TURN
+        ? piece <= PIECE_REPORT
+        : piece == PIECE_DEVICE || piece == PIECE_WINDOWS;
+
+    return lends && call->pieces[piece].length == 0;
+}
+
+static uint8_t *lent(const struct call *call, int piece)
+{
+    return call->nulls && call_lends_empty(call, piece)
+        ? NULL : call->pieces[piece].bytes;
+}
+
+#define LENT(piece) lent(call, piece), call->pieces[piece].length
 
 void call_make(struct call *call, fresh_call *fresh, turn_call *turn)
 {

@@ -31,6 +31,7 @@ struct piece {
 
 struct call {
     enum call_kind kind;
+    int nulls; /* an empty piece is lent as NULL, not as its pointer */
     struct piece pieces[PIECES];
 };
 
@@ -57,13 +58,16 @@ void piece_end(struct piece *piece, size_t length);
 void piece_add(struct piece *piece, const uint8_t *bytes, size_t count);
 void piece_add_word(struct piece *piece, uint32_t word);
 
-/* Starts a call: device, report and answer have their lengths, a turn's pack
- * and pipe hold nothing, fresh's windows and span are zeros. */
+/* Starts a call without nulls: device, report and answer have their lengths, a
+ * turn's pack and pipe hold nothing, fresh's windows and span are zeros. */
 void call_start(struct call *call, enum call_kind kind);
 void call_copy(struct call *to, const struct call *from);
 
 /* Makes the call: the pieces are then as the call left them. */
 void call_make(struct call *call, fresh_call *fresh, turn_call *turn);
+
+/* 1 if this piece is one that the call lends, and has no byte. */
+int call_lends_empty(const struct call *call, int piece);
 
 /* The first piece in which two calls are not the same, or -1. */
 int call_difference(const struct call *a, const struct call *b);

@@ -54,20 +54,23 @@ enum case_kind draw_case(struct call *call, uint64_t seed, uint64_t number)
     return CASE_DAMAGED;
 }
 
-/* Near the length that the piece has to have, or any. */
+/* None, any, or near the length that the piece has to have. */
 static void draw_length(struct piece *piece, struct chance *c, uint32_t right)
 {
-    uint32_t length = mille(c, 300) ? below(c, right + ROOM_BESIDE + 1)
-                                    : right - WORD + below(c, 2 * WORD + 1);
-
-    piece_zeros(piece, length);
+    if (mille(c, 150))
+        piece_zeros(piece, 0);
+    else if (mille(c, 300))
+        piece_zeros(piece, below(c, right + ROOM_BESIDE + 1));
+    else
+        piece_zeros(piece, right - WORD + below(c, 2 * WORD + 1));
 }
 
 void draw_lengths(struct call *call, uint64_t seed, uint64_t number)
 {
     struct chance c = case_chance(~seed, number);
 
-    if (!mille(&c, 40))
+    /* Of makings, which are few, more. */
+    if (!mille(&c, call->kind == CALL_FRESH ? 250 : 40))
         return;
     if (mille(&c, 500))
         draw_length(&call->pieces[PIECE_DEVICE], &c, IND_IMAGE_BYTES);

@@ -1,4 +1,4 @@
-/* Turns at an edge of what the page allows. */
+/* Turns at an edge of what is allowed. */
 #include "cases/commands.h"
 #include "cases/draw.h"
 #include "cases/words.h"

@@ -1,6 +1,7 @@
 #!/bin/sh
-# share-test.sh BUILD: a comparison must fail where no turn is served, or few are, or no device is made, though nothing
-# differs. Each program is built with the device as it is, and with ones that refuse all turns, most turns, and all makings.
+# share-test.sh BUILD: a comparison must fail where no turn is served, or few are, or no device is made, or no piece is lent
+# as NULL, though nothing differs. Each program is built with the device as it is, and with ones that refuse all turns, most
+# turns, and all makings; the one that lends NULL also without.
 # BUILD: the folder of this folder's objects; CC, CFLAGS and LDFLAGS as for make.
 set -eu
 top=$(cd "$(dirname "$(readlink -f "$0")")/.." && pwd -P)
@@ -10,6 +11,7 @@ mkdir -p "$work"
 wrong=0
 asked='if (memory_refused(device, lent->memory_len))'
 making='if (!memory_refused(device, memory_len))'
+lending='before->nulls = n % 2 == 1;'
 objects=$(cd "$top" && find device cases -name '*.c' ! -path device/device.c ! -path device/replay.c |
     sed "s|^|$build/|; s|c\$|o|")
 
@@ -20,14 +22,18 @@ link() { # PROGRAM OBJECT..
     ${CC:-gcc} "$@" "$work/device.o" $objects ${LDFLAGS:-} -o "$work/$program"
 }
 
-build_with() { # TEXT TEXT: the second in the place of the first
-    awk -v old="$1" -v new="$2" '
+edit() { # FOLDER NAME TEXT TEXT: compiles FOLDER/NAME.c with the second text in the place of the first
+    awk -v old="$3" -v new="$4" '
         { at = index($0, old) }
         at { $0 = substr($0, 1, at - 1) new substr($0, at + length(old)); made++ }
         { print }
-        END { exit made != 1 }' "$top/device/device.c" > "$work/device.c"
+        END { exit made != 1 }' "$top/$1/$2.c" > "$work/$2.c"
     # shellcheck disable=SC2086
-    ${CC:-gcc} ${CFLAGS:--std=c11 -O2} -I "$top/device" -c "$work/device.c" -o "$work/device.o"
+    ${CC:-gcc} ${CFLAGS:--std=c11 -O2} -I "$top" -I "$top/$1" -c "$work/$2.c" -o "$work/$2.o"
+}
+
+build_with() { # TEXT TEXT: the device with the second in the place of the first
+    edit device device "$1" "$2"
     link record "$build/records/record.o" "$build/records/records.o"
     link recordcheck "$build/records/recordcheck.o" "$build/records/records.o"
     link compare-self "$build/whole/whole.o" "$build/whole/self.o"
@@ -75,6 +81,11 @@ try_all 1
 echo "with one that makes no device"
 build_with "$making" "if (memory_len == UINT64_MAX && !memory_refused(device, memory_len))"
 try_calls 1
+echo "with the device as it is, and nothing lent as NULL"
+build_with "$asked" "$asked"
+edit whole whole "$lending" "before->nulls = 0;"
+link compare-self "$work/whole.o" "$build/whole/self.o"
+try 1 "500 calls, 0 differ" "$work/compare-self" 500 1
 rm -rf "$work"
-echo "15 runs, $wrong wrong"
+echo "16 runs, $wrong wrong"
 [ $wrong -eq 0 ]

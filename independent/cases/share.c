@@ -17,6 +17,11 @@ void share_call(struct share *share, const struct call *after)
         share->makings++;
         share->made += accepted;
     }
+    for (int i = 0; i < PIECES; i++) {
+        int empty = call_lends_empty(after, i);
+        share->empty += empty;
+        share->nulls += empty && after->nulls;
+    }
 }
 
 static int is_enough(uint64_t part, uint64_t all)
@@ -32,6 +37,15 @@ static int makings_enough(const struct share *share, FILE *out)
         return 1;
     fprintf(out, "%" PRIu64 " of %" PRIu64 " makings made a device%s\n",
             share->made, share->makings, enough ? "" : ": too few");
+    return enough;
+}
+
+int share_nulls_enough(const struct share *share, FILE *out)
+{
+    int enough = is_enough(share->nulls, share->empty);
+
+    fprintf(out, "%" PRIu64 " of %" PRIu64 " empty pieces lent as NULL%s\n",
+            share->nulls, share->empty, enough ? "" : ": too few");
     return enough;
 }
 

@@ -27,6 +27,7 @@ static struct {
     uint64_t calls, fresh[2], idle, refused[REFUSALS], wrong[WRONGS];
     uint64_t outcome[IND_OUTCOMES], opcode_done[OPCODES], row[ROWS];
     uint64_t sight[SIGHTS], steps, most_steps;
+    uint64_t with_nulls, null[PIECES];
 } count;
 
 /* ---- a dispatch, run again to look at its steps ---- */
@@ -124,11 +125,21 @@ static void tally_served(const struct call *before, const struct call *after)
     }
 }
 
+static void tally_nulls(const struct call *before)
+{
+    if (!before->nulls)
+        return;
+    count.with_nulls++;
+    for (int i = 0; i < PIECES; i++)
+        count.null[i] += (uint64_t)call_lends_empty(before, i);
+}
+
 void tally_call(const struct call *before, const struct call *after)
 {
     uint32_t answer = call_answer(after);
 
     count.calls++;
+    tally_nulls(before);
     if (answer >= IND_WRONG_IMAGE && answer <= IND_WRONG_WINDOWS) {
         count.wrong[answer - IND_WRONG_IMAGE]++;
     } else if (after->kind == CALL_FRESH) {
@@ -195,11 +206,22 @@ static int table_of(FILE *out)
     return missing;
 }
 
+/* Records hold no pointers, so there is nothing to tell of them here. */
+static void print_nulls(FILE *out)
+{
+    if (count.with_nulls == 0)
+        return;
+    title(out, "empty pieces lent as NULL");
+    for (int i = 0; i <= PIECE_WINDOWS; i++)
+        line(out, piece_names[i], count.null[i]);
+}
+
 void tally_print(FILE *out)
 {
     fprintf(out, "calls %" PRIu64 ", kernel steps %" PRIu64 ", at most %" PRIu64
             " in a call\n", count.calls, count.steps, count.most_steps);
     table_of(out);
+    print_nulls(out);
 }
 
 int tally_missing(void)

@@ -1,5 +1,6 @@
-/* The independent device: the scope page read once more, in plain C11. Every
- * number here is the page's own. Lent pieces must not overlap each other. */
+/* The independent device: the rules of docs/DEVICE.md once more, in plain C11.
+ * Every number here is that manual's. A piece that a call changes may overlap
+ * no other. */
 #ifndef IND_DEVICE_H
 #define IND_DEVICE_H
 

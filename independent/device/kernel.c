@@ -151,7 +151,7 @@ static uint32_t carry_out(struct ind_thread *thread,
     return stop;
 }
 
-/* The order is the page's: 14, off the end (12), 11, then branch or address. */
+/* Asked in this order: 14, off the end (12), 11, then branch or address. */
 uint32_t ind_step(struct ind_thread *thread, const struct ind_kernel *kernel,
                   const struct ind_window *window, uint32_t limit)
 {

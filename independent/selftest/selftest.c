@@ -1,4 +1,5 @@
-/* The selftest: P1 to P12 and the tempting errors here, the rest by file. */
+/* The selftest: the worked examples P1 to P12 of docs/DEVICE.md and the
+ * tempting errors here, the rest by file. */
 #include "selftest/stage.h"
 
 #include <stdio.h>
@@ -173,7 +174,7 @@ static void wfi_as_step_4096(void)
 }
 
 /* The other tests use these by their names. */
-static void numbers_of_the_page(void)
+static void numbers_of_the_manual(void)
 {
     CHECK_EQ(IND_MEMORY_MOST, 1048576);
     CHECK_EQ(IND_RING_MOST, 65536);
@@ -195,7 +196,7 @@ static void numbers_of_the_page(void)
 
 int main(void)
 {
-    numbers_of_the_page();
+    numbers_of_the_manual();
     p1_to_p3();
     p4_to_p7();
     p8_and_p9();
@@ -212,6 +213,7 @@ int main(void)
     test_kernels();
     test_replay();
     test_image();
+    test_nulls();
     puts("selftest: every check holds");
     return 0;
 }

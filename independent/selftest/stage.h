@@ -94,5 +94,6 @@ void test_calls(void);
 void test_kernels(void);
 void test_replay(void);
 void test_image(void);
+void test_nulls(void);
 
 #endif

@@ -69,7 +69,8 @@ static void err_served(struct turned *t)
             memcpy(t->device + MARKER, t->before + MARKER, WORD);
         break;
     case 8: /* the byte behind the memory */
-        t->memory[t->memory_len] ^= 1;
+        if (t->memory != NULL)
+            t->memory[t->memory_len] ^= 1;
         break;
     default:
         break;
@@ -118,6 +119,8 @@ uint32_t fv_fresh(uint8_t *device, size_t device_len, const uint8_t *windows,
 {
     uint8_t before[IND_IMAGE_BYTES] = {0};
 
+    if (MUTANT == 19 && windows == NULL)
+        return IND_WRONG_IMAGE; /* refused before a length is asked */
     if (device_len == sizeof before)
         memcpy(before, device, sizeof before);
     if (MUTANT == 15) /* only the length's low word */
@@ -142,6 +145,12 @@ uint32_t fv_turn(uint8_t *device, size_t device_len, uint8_t *memory,
         {0}, device, memory, pipe, report, memory_len, pipe_len, 0
     };
 
+    if (MUTANT == 20 && ring3 == NULL) /* refused as too long */
+        ring3_len = IND_RING_MOST + 1;
+    if (MUTANT == 21 && memory_len == 0) /* read before its length is asked */
+        (void)*(volatile uint8_t *)memory;
+    if (MUTANT == 22 && pipe != NULL && pipe_len == 0)
+        pipe[0] ^= 1; /* a pointer to no bytes, taken for one to some */
     if (MUTANT == 18 && report_len != IND_REPORT_BYTES)
         return IND_WRONG_REPORT; /* asked first */
     if (device_len == sizeof t.before)

@@ -38,6 +38,8 @@ int main(int argc, char **argv)
     for (uint64_t n = 0; n < count; n++) {
         draw_case(before, seed, n);
         draw_lengths(before, seed, n);
+        /* In every second call: a pointer to no bytes has its guard to keep. */
+        before->nulls = n % 2 == 1;
         call_copy(got, before);
         call_copy(wanted, before);
         call_make(got, fv_fresh, fv_turn);
@@ -50,10 +52,11 @@ int main(int argc, char **argv)
             tell(seed, n, piece, got, wanted);
     }
     tally_print(stdout);
+    int lent = share_nulls_enough(&share, stdout);
     int enough = share_enough(&share, "turns", stdout);
     printf("%" PRIu64 " calls, %" PRIu64 " differ\n", count, different);
     call_free(before);
     call_free(got);
     call_free(wanted);
-    return different != 0 || !enough;
+    return different != 0 || !lent || !enough;
 }

@@ -68,8 +68,8 @@ uint32_t near_word(struct chance *c)
     }
 }
 
-/* What the instruction reference has and the scope page leaves out, and words
- * of the RISC-V manual itself: a row's opcode or another, funct3, funct7. */
+/* What tinyGPU has and the list of docs/DEVICE.md, Kernels, leaves out, and
+ * words of the RISC-V manual: a row's opcode or another, funct3, funct7. */
 static const struct {
     uint8_t opcode, funct3, funct7;
 } left_out[] = {

@@ -8,7 +8,7 @@
 uint32_t listed_word(struct chance *c);
 /* A word that is listed or just misses it. */
 uint32_t near_word(struct chance *c);
-/* A word of the instruction reference that the scope page leaves out. */
+/* A word that tinyGPU has and the list of docs/DEVICE.md, Kernels, has not. */
 uint32_t left_out_word(struct chance *c);
 
 #endif

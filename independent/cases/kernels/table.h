@@ -1,5 +1,5 @@
-/* The instruction table of the scope page, as masks: a third reading, used to
- * write words and to count them, never to run them. */
+/* The instruction list (docs/DEVICE.md, Kernels) as masks: a third reading,
+ * used to write words and to count them, never to run them. */
 #ifndef TABLE_H
 #define TABLE_H
 
