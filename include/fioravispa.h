@@ -1,5 +1,6 @@
 /* Fioravispa for programs in C: the device's two calls, names for its numbers,
- * and small helpers that spell commands and read answers.
+ * and small helpers that spell commands and read answers. docs/DEVICE.md is the
+ * manual.
  *
  * The device keeps nothing between calls: its state is an image of bytes that
  * the caller keeps. Everything else is lent for one call. All numbers in bytes
@@ -75,9 +76,9 @@ enum {
 
 enum {
     FV_OUTCOME_DONE = 0,
-    FV_OUTCOME_OPCODE = 1,        /* opcode not in the table */
+    FV_OUTCOME_OPCODE = 1,        /* opcode none of the eight below */
     FV_OUTCOME_FLAGS = 2,         /* a reserved flag is set */
-    FV_OUTCOME_PAYLOAD = 3,       /* payload bit not as in the table */
+    FV_OUTCOME_PAYLOAD = 3,       /* WRITE_MEM without the payload flag, or another command with it */
     FV_OUTCOME_SLOT = 4,          /* emit or wait set and rdst above 63 */
     FV_OUTCOME_FULL = 5,          /* emit set and the slot holds 4,294,967,295 */
     FV_OUTCOME_UNALIGNED = 6,     /* an address, or SET_FB's base or stride, not a multiple of 4 */
@@ -86,7 +87,7 @@ enum {
     FV_OUTCOME_OUTSIDE = 8,       /* bytes outside the window, or SET_FB base not below its length */
     FV_OUTCOME_FORMAT = 9,        /* stride outside 4 to 65,536, or format not 0 */
     FV_OUTCOME_DISPATCH = 10,     /* groups or threads outside 1 to 64, or no such kernel */
-    FV_OUTCOME_INSTRUCTION = 11,  /* word not in the instruction list */
+    FV_OUTCOME_INSTRUCTION = 11,  /* a word that is no instruction; docs/DEVICE.md lists them */
     FV_OUTCOME_PLACE = 12,        /* taken branch to a place that is not a multiple of 4 inside the kernel;
                                    * or running off its end */
     FV_OUTCOME_ACCESS = 13,       /* load or store not wholly in the window */

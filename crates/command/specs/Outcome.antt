@@ -5,7 +5,7 @@ use lib.Dec.{eqb}
 use Rattle.command.specs.declared.outcome.Outcome.{Outcome}
 use Rattle.command.specs.declared.outcome.Outcome.the-variants.{Done, UnknownOpcode, ReservedFlag, WrongPayloadBit, NoSuchSlot, SlotFull, Misaligned, NoFrame, OutsideTheWindow, BadFrame, BadDispatch, NotListed, OffTheKernel, AccessOutside, OutOfSteps}
 
--- the number of each outcome in the table of outcome numbers
+-- the number of each outcome
 abbrev pub outcomeNumber : Outcome → ℕ
 outcomeNumber Done = 0
 outcomeNumber UnknownOpcode = 1

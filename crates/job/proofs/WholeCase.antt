@@ -1,4 +1,4 @@
--- The smallest whole job of docs/DEVICE.md: its length, and its parts.
+-- The whole job of docs/DEVICE.md: its length, and its parts.
 -- Assumes nothing.
 use mathlib.Core.Path.{_≡_, refl}
 use lib.ListN.{length}

@@ -1,4 +1,4 @@
--- The smallest whole job of docs/DEVICE.md.
+-- The whole job of docs/DEVICE.md.
 use mathlib.Core.List.{List, [], _∷_, _++_}
 use Prim.Native.Nat.{ℕ}
 use lib.ListN.{replicate}

@@ -1,4 +1,4 @@
--- The smallest whole job of docs/DEVICE.md, by computation.
+-- The whole job of docs/DEVICE.md, by computation.
 -- Assumes nothing.
 use Rattle.job.specs.WholeCase.{wholeCase}
 use Rattle.job.specs.Parts.{bytesOf}

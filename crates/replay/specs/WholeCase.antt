@@ -1,4 +1,4 @@
--- The smallest whole job of docs/DEVICE.md: the text that it prints.
+-- The whole job of docs/DEVICE.md: the text that it prints.
 use mathlib.Core.Path.{_≡_}
 use mathlib.Core.List.{[], _∷_}
 use Rattle.job.specs.WholeCase.{wholeCase}
