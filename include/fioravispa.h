@@ -330,7 +330,7 @@ static inline int fv_append(struct fv_ring *ring, const struct fv_command *comma
 
     if ((command->opcode | command->flags | command->rdst | command->len) > 255)
         return 0;
-    if (ring->room - ring->length < size)
+    if (ring->room < ring->length || ring->room - ring->length < size)
         return 0;
     at = fv_put_words(ring->bytes + ring->length, header, 4);
     if (command->flags & FV_FLAG_WAIT)

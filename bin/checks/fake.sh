@@ -24,7 +24,7 @@ END
 fake kit/rt <<'END'
 #!/bin/sh
 fakes=$(dirname "$(dirname "$0")")
-[ "$1" != version ] || { cat "$fakes/version"; exit; }
+[ "$1" != version ] || { cat "$fakes/version" 2>/dev/null; exit; }
 echo "rt $*" >>"$fakes/asked"
 cat "$fakes/says"
 mkdir -p target/bin target/staticlib target/stamp

@@ -1,5 +1,4 @@
-/* The selftest: the worked examples P1 to P12 of docs/DEVICE.md and the
- * tempting errors here, the rest by file. */
+/* The selftest: the worked examples P1 to P12 of docs/DEVICE.md and the * errors that are easily made here, the rest by file. */
 #include "selftest/stage.h"
 
 #include <stdio.h>

@@ -140,6 +140,6 @@ int main(void)
     call_free(nulled);
     call_free(wanted);
     printf("%" PRIu64 " calls with empty pieces, %" PRIu64 " accepted, "
-           "%" PRIu64 " differ as NULL\n", calls, accepted, different);
+           "%" PRIu64 " differ\n", calls, accepted, different);
     return different != 0 || accepted == 0;
 }
