@@ -1,7 +1,7 @@
 # shellcheck shell=sh
 # A repository of one small source with these scripts, and beside it fakes: an rt, which says the file 'says' and makes what
-# it is asked for of the file 'program', and as the real one makes no program again whose source is the same; and a uname for
-# each kind of machine.
+# it is asked for of the file 'program', and as the real one makes no program again whose source is the same; what the file
+# 'meanwhile' says is done while it proves; and a uname for each kind of machine.
 # shellcheck disable=SC2154
 repo=$scratch/repo fakes=$scratch/fakes
 
@@ -27,6 +27,7 @@ fakes=$(dirname "$(dirname "$0")")
 [ "$1" != version ] || { cat "$fakes/version" 2>/dev/null; exit; }
 echo "rt $*" >>"$fakes/asked"
 cat "$fakes/says"
+[ ! -e "$fakes/meanwhile" ] || . "$fakes/meanwhile"
 mkdir -p target/bin target/staticlib target/stamp
 case $* in
 "check replay")

@@ -1,4 +1,5 @@
-/* The selftest: the worked examples P1 to P12 of docs/DEVICE.md and the * errors that are easily made here, the rest by file. */
+/* The selftest: the worked examples P1 to P12 of docs/DEVICE.md and the
+ * errors that are easily made here, the rest by file. */
 #include "selftest/stage.h"
 
 #include <stdio.h>

@@ -1,6 +1,7 @@
 #!/bin/sh
 # mutants.sh BUILD SEED: builds each error of self.c into the comparison, which must tell it, and none, which must not differ.
-# The errors about NULL are built into the comparison of empty pieces too, and one that shows with a pointer as well.
+# The errors about NULL are built into the comparison of empty pieces too, and error 18, which shows with an empty piece
+# whether or not it is NULL.
 # BUILD: the folder of this folder's objects; CC, CFLAGS and LDFLAGS as for make.
 set -eu
 here=$(cd "$(dirname "$(readlink -f "$0")")" && pwd -P)
