@@ -1,4 +1,4 @@
-/* Fioravispa for programs in C: the device's two calls, names for its numbers,
+/* Fioravispa for programs in C: the device's three calls, names for its numbers,
  * and small helpers that spell commands and read answers. docs/DEVICE.md is the
  * manual.
  *
@@ -21,10 +21,11 @@ extern "C" {
 enum {
     FV_RINGS = 4,
     FV_SLOTS = 64,
-    FV_IMAGE_BYTES = 372,         /* 93 words: seven for each ring, the slots, the marker */
+    FV_IMAGE_BYTES = 376,         /* 94 words: seven for each ring, the slots, the marker, the limit */
     FV_IMAGE_RING_WORDS = 7,      /* window start, window length, cursor, frame held, base, stride, format */
     FV_IMAGE_SLOTS_WORD = 28,     /* where the slots start */
     FV_IMAGE_MARKER_WORD = 92,
+    FV_IMAGE_LIMIT_WORD = 93,
     FV_REPORT_BYTES = 24,         /* 6 words */
     FV_WINDOWS_BYTES = 32,        /* four pairs: start, length */
     FV_MEMORY_MOST = 1048576,
@@ -38,7 +39,9 @@ enum {
     FV_STRIDE_MOST = 65536,
     FV_GROUPS_MOST = 64,
     FV_THREADS_MOST = 64,         /* in one group */
-    FV_STEPS_MOST = 4096,         /* of one thread */
+    FV_LIMIT_LEAST = 1,           /* steps that a thread may take, a number of the device */
+    FV_LIMIT_MOST = 65536,
+    FV_LIMIT_DEFAULT = 16384,     /* where none is named */
     FV_KERNELS_MOST = 16,
     FV_CODE_MOST = 16384,         /* words */
     FV_PACK_LEAST = 8,            /* two counts of 0: no kernel */
@@ -50,15 +53,17 @@ enum {
 /* ---- what a call answers ---- */
 
 enum {
-    FV_MADE = 0,                  /* fv_fresh: the device is made */
+    FV_MADE = 0,                  /* fv_fresh, fv_fresh_with: the device is made */
     FV_SERVED = 0,                /* fv_turn: one command was taken; the report tells of it */
     FV_IDLE = 1,                  /* fv_turn: no ring is ready; image, memory and pipe are as they were */
 
     /* The whole call is refused, for the first of these that applies. After fv_turn
      * image, memory and pipe are as they were. fv_fresh can give 101 alone, and
-     * writes a fresh device of four empty windows. */
+     * fv_fresh_with also 102 for its limit; either writes a fresh device of four
+     * empty windows and FV_LIMIT_DEFAULT. */
     FV_REFUSED_MEMORY = 101,      /* memory too long, or a window outside it or not in multiples of 4 */
-    FV_REFUSED_STATE = 102,       /* marker above 3, cursor above FV_RING_MOST, or a held frame SET_FB would refuse */
+    FV_REFUSED_STATE = 102,       /* marker above 3, limit outside FV_LIMIT_LEAST to FV_LIMIT_MOST, cursor above
+                                   * FV_RING_MOST, or a held frame SET_FB would refuse */
     FV_REFUSED_RINGS = 103,       /* a ring too long or shorter than its cursor */
     FV_REFUSED_PIPE = 104,        /* pipe under FV_PIPE_LEAST */
     FV_REFUSED_PACK = 105,        /* faulty pack */
@@ -91,7 +96,7 @@ enum {
     FV_OUTCOME_PLACE = 12,        /* taken branch to a place that is not a multiple of 4 inside the kernel;
                                    * or running off its end */
     FV_OUTCOME_ACCESS = 13,       /* load or store not wholly in the window */
-    FV_OUTCOME_STEPS = 14         /* thread already took 4,096 steps */
+    FV_OUTCOME_STEPS = 14         /* thread already took as many steps as the device's limit */
 };
 
 /* ---- commands ---- */
@@ -123,7 +128,8 @@ enum {
  * No byte of it is read or written, so a ring that is not used can stay {0}. A piece
  * that a call changes may overlap no other. */
 
-/* Puts a fresh device into an image: slots, cursors and marker 0, frames unset.
+/* Puts a fresh device into an image: slots, cursors and marker 0, frames unset, the
+ * limit FV_LIMIT_DEFAULT.
  *   image          FV_IMAGE_BYTES; what it held does not matter
  *   windows        FV_WINDOWS_BYTES: start and length for each ring, in multiples of 4
  *   memory_length  of the memory that the turns will lend
@@ -131,6 +137,14 @@ enum {
  * or FV_WRONG_IMAGE, FV_WRONG_WINDOWS. */
 uint32_t fv_fresh(uint8_t *image, size_t image_length, const uint8_t *windows, size_t windows_length,
                   uint64_t memory_length);
+
+/* The same with a limit that is named.
+ *   limit          the steps that a thread of a kernel may take, FV_LIMIT_LEAST to FV_LIMIT_MOST
+ * A device keeps it. Gives FV_REFUSED_STATE too, for a limit outside, after
+ * FV_REFUSED_MEMORY; with either comes the device that fv_fresh gives with
+ * FV_REFUSED_MEMORY, whatever limit was named. */
+uint32_t fv_fresh_with(uint8_t *image, size_t image_length, const uint8_t *windows, size_t windows_length,
+                       uint64_t memory_length, uint32_t limit);
 
 /* One turn: the first ready ring from the marker upward has its command taken.
  *   image    the device; only a served turn changes it
@@ -214,6 +228,12 @@ static inline struct fv_window fv_image_window(const uint8_t *image, uint32_t q)
 static inline uint32_t fv_image_marker(const uint8_t *image)
 {
     return fv_word(image, FV_IMAGE_MARKER_WORD);
+}
+
+/* The steps that a thread of a kernel may take. */
+static inline uint32_t fv_image_limit(const uint8_t *image)
+{
+    return fv_word(image, FV_IMAGE_LIMIT_WORD);
 }
 
 struct fv_frame {

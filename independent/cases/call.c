@@ -9,7 +9,7 @@
 #include "device/image.h"
 #include "device/parts.h"
 
-enum { SPAN_BYTES = 2 * WORD, ANSWER_BYTES = WORD };
+enum { SPAN_BYTES = 2 * WORD, LIMIT_BYTES = WORD, ANSWER_BYTES = WORD };
 
 /* A little more than a device takes, so that what is too long can be lent. */
 static const size_t most[PIECES] = {
@@ -23,12 +23,13 @@ static const size_t most[PIECES] = {
     [PIECE_PIPE] = IND_PIPE_LEAST + PIPE_ROOM_BESIDE,
     [PIECE_REPORT] = IND_REPORT_BYTES + ROOM_BESIDE,
     [PIECE_WINDOWS] = IND_WINDOWS_BYTES + ROOM_BESIDE,
-    [PIECE_SPAN] = SPAN_BYTES, [PIECE_ANSWER] = ANSWER_BYTES
+    [PIECE_SPAN] = SPAN_BYTES, [PIECE_LIMIT] = LIMIT_BYTES,
+    [PIECE_ANSWER] = ANSWER_BYTES
 };
 
 const char *const piece_names[PIECES] = {
     "device", "memory", "ring 0", "ring 1", "ring 2", "ring 3", "pack", "pipe",
-    "report", "windows", "memory length", "answer"
+    "report", "windows", "memory length", "limit", "answer"
 };
 
 static void *must(void *room)
@@ -107,7 +108,9 @@ void call_start(struct call *call, enum call_kind kind)
         piece_end(&call->pieces[i], 0);
     piece_zeros(&call->pieces[PIECE_DEVICE], IND_IMAGE_BYTES);
     piece_zeros(&call->pieces[PIECE_ANSWER], ANSWER_BYTES);
-    if (kind == CALL_FRESH) {
+    if (kind == CALL_FRESH_WITH)
+        piece_zeros(&call->pieces[PIECE_LIMIT], LIMIT_BYTES);
+    if (kind != CALL_TURN) {
         piece_zeros(&call->pieces[PIECE_WINDOWS], IND_WINDOWS_BYTES);
         piece_zeros(&call->pieces[PIECE_SPAN], SPAN_BYTES);
         return;
@@ -134,6 +137,11 @@ uint64_t call_span(const struct call *call)
     return get_word(bytes) | (uint64_t)get_word(bytes + WORD) << 32;
 }
 
+uint32_t call_limit(const struct call *call)
+{
+    return get_word(call->pieces[PIECE_LIMIT].bytes);
+}
+
 uint32_t call_answer(const struct call *call)
 {
     return get_word(call->pieces[PIECE_ANSWER].bytes);
@@ -156,15 +164,22 @@ static uint8_t *lent(const struct call *call, int piece)
 
 #define LENT(piece) lent(call, piece), call->pieces[piece].length
 
-void call_make(struct call *call, fresh_call *fresh, turn_call *turn)
+void call_make(struct call *call, fresh_call *fresh,
+               fresh_with_call *fresh_with, turn_call *turn)
 {
-    uint32_t answer = call->kind == CALL_FRESH
-        ? fresh(LENT(PIECE_DEVICE), LENT(PIECE_WINDOWS), call_span(call))
-        : turn(LENT(PIECE_DEVICE), LENT(PIECE_MEMORY), LENT(PIECE_RING),
-               LENT(PIECE_RING + 1), LENT(PIECE_RING + 2),
-               LENT(PIECE_RING + 3), LENT(PIECE_PACK), LENT(PIECE_PIPE),
-               LENT(PIECE_REPORT));
+    uint32_t answer;
 
+    if (call->kind == CALL_FRESH)
+        answer = fresh(LENT(PIECE_DEVICE), LENT(PIECE_WINDOWS),
+                       call_span(call));
+    else if (call->kind == CALL_FRESH_WITH)
+        answer = fresh_with(LENT(PIECE_DEVICE), LENT(PIECE_WINDOWS),
+                            call_span(call), call_limit(call));
+    else
+        answer = turn(LENT(PIECE_DEVICE), LENT(PIECE_MEMORY), LENT(PIECE_RING),
+                      LENT(PIECE_RING + 1), LENT(PIECE_RING + 2),
+                      LENT(PIECE_RING + 3), LENT(PIECE_PACK), LENT(PIECE_PIPE),
+                      LENT(PIECE_REPORT));
     put_word(call->pieces[PIECE_ANSWER].bytes, answer);
 }
 

@@ -5,15 +5,19 @@
 #include <stddef.h>
 #include <stdint.h>
 
-enum call_kind { CALL_FRESH = 0, CALL_TURN = 1 };
+enum call_kind {
+    CALL_FRESH = 0, CALL_TURN = 1, CALL_FRESH_WITH = 2,
+    CALL_KINDS
+};
 
-/* A turn takes those from DEVICE to REPORT; fresh takes DEVICE, WINDOWS and
- * SPAN, the memory's length in 8 bytes. Both leave an ANSWER of 4 bytes. */
+/* A turn takes those from DEVICE to REPORT; a making takes DEVICE, WINDOWS and
+ * SPAN, the memory's length in 8 bytes, and fresh_with LIMIT too, a word. All
+ * leave an ANSWER of 4 bytes. */
 enum call_piece {
     PIECE_DEVICE, PIECE_MEMORY,
     PIECE_RING, /* and three more */
     PIECE_PACK = PIECE_RING + 4, PIECE_PIPE, PIECE_REPORT,
-    PIECE_WINDOWS, PIECE_SPAN, PIECE_ANSWER,
+    PIECE_WINDOWS, PIECE_SPAN, PIECE_LIMIT, PIECE_ANSWER,
     PIECES
 };
 
@@ -37,6 +41,8 @@ struct call {
 
 typedef uint32_t fresh_call(uint8_t *, size_t, const uint8_t *, size_t,
                             uint64_t);
+typedef uint32_t fresh_with_call(uint8_t *, size_t, const uint8_t *, size_t,
+                                 uint64_t, uint32_t);
 typedef uint32_t turn_call(uint8_t *, size_t, uint8_t *, size_t,
                            const uint8_t *, size_t, const uint8_t *, size_t,
                            const uint8_t *, size_t, const uint8_t *, size_t,
@@ -59,12 +65,14 @@ void piece_add(struct piece *piece, const uint8_t *bytes, size_t count);
 void piece_add_word(struct piece *piece, uint32_t word);
 
 /* Starts a call without nulls: device, report and answer have their lengths, a
- * turn's pack and pipe hold nothing, fresh's windows and span are zeros. */
+ * turn's pack and pipe hold nothing, a making's windows, span and limit are
+ * zeros. */
 void call_start(struct call *call, enum call_kind kind);
 void call_copy(struct call *to, const struct call *from);
 
 /* Makes the call: the pieces are then as the call left them. */
-void call_make(struct call *call, fresh_call *fresh, turn_call *turn);
+void call_make(struct call *call, fresh_call *fresh,
+               fresh_with_call *fresh_with, turn_call *turn);
 
 /* 1 if this piece is one that the call lends, and has no byte. */
 int call_lends_empty(const struct call *call, int piece);
@@ -74,6 +82,7 @@ int call_difference(const struct call *a, const struct call *b);
 extern const char *const piece_names[PIECES];
 
 uint64_t call_span(const struct call *call);
+uint32_t call_limit(const struct call *call);
 uint32_t call_answer(const struct call *call);
 
 #endif

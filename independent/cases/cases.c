@@ -38,7 +38,7 @@ enum case_kind draw_case(struct call *call, uint64_t seed, uint64_t number)
     struct chance c = case_chance(seed, number);
     uint32_t x = below(&c, 1000);
 
-    if (x < 45) {
+    if (x < 60) {
         draw_fresh(call, &c);
         return CASE_FRESH;
     }
@@ -70,13 +70,13 @@ void draw_lengths(struct call *call, uint64_t seed, uint64_t number)
     struct chance c = case_chance(~seed, number);
 
     /* Of makings, which are few, more. */
-    if (!mille(&c, call->kind == CALL_FRESH ? 250 : 40))
+    if (!mille(&c, call->kind != CALL_TURN ? 250 : 40))
         return;
     if (mille(&c, 500))
         draw_length(&call->pieces[PIECE_DEVICE], &c, IND_IMAGE_BYTES);
     if (!mille(&c, 700))
         return;
-    if (call->kind == CALL_FRESH)
+    if (call->kind != CALL_TURN)
         draw_length(&call->pieces[PIECE_WINDOWS], &c, IND_WINDOWS_BYTES);
     else
         draw_length(&call->pieces[PIECE_REPORT], &c, IND_REPORT_BYTES);

@@ -2,6 +2,7 @@
 #include "cases/commands.h"
 #include "cases/draw.h"
 #include "cases/kernels/packs.h"
+#include "cases/limits.h"
 #include "cases/words.h"
 #include "device/image.h"
 
@@ -104,7 +105,7 @@ static void any_bytes(struct piece *piece, struct chance *c, uint32_t most)
 /* Any bytes at all; half of the time with windows that are inside. */
 static void draw_noise(struct call *call, struct chance *c)
 {
-    uint32_t ways = below(c, 8);
+    uint32_t ways = below(c, 16);
 
     call_start(call, CALL_TURN);
     any_bytes(&call->pieces[PIECE_MEMORY], c, 200);
@@ -125,6 +126,8 @@ static void draw_noise(struct call *call, struct chance *c)
     }
     if (ways & 4)
         put_word(image_word(call, 0, IND_IMAGE_MARKER), below(c, IND_RINGS));
+    if (ways & 8)
+        put_word(image_word(call, 0, IND_IMAGE_LIMIT), usual_limit(c));
 }
 
 void draw_damaged(struct call *call, struct chance *c)

@@ -73,7 +73,7 @@ static void move_cursor(struct call *call, struct chance *c)
 
     if (x < 200)
         far_cursor(call, c);
-    else if (x < 208)
+    else if (x < 204)
         far_command(call, c);
     else
         near_cursor(call, c);
@@ -95,7 +95,7 @@ enum theme {
 
 static enum theme any_theme(struct chance *c)
 {
-    static const uint8_t shares[THEME_NONE] = { 16, 13, 11, 6, 6, 6, 11 };
+    static const uint8_t shares[THEME_NONE] = { 18, 13, 11, 4, 6, 6, 11 };
     uint32_t x = below(c, 100);
     int theme = 0;
 

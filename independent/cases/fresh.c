@@ -1,5 +1,6 @@
-/* Calls of fresh. */
+/* Calls of fresh and of fresh_with. */
 #include "cases/draw.h"
+#include "cases/limits.h"
 #include "cases/words.h"
 #include "device/parts.h"
 
@@ -64,13 +65,25 @@ static void any_window(struct chance *c, uint64_t span, uint32_t pair[2])
         miss_window(c, (uint32_t)span, pair);
 }
 
+/* A call, named a limit or not. */
+static void start_making(struct call *call, struct chance *c)
+{
+    if (mille(c, 400)) {
+        call_start(call, CALL_FRESH);
+        return;
+    }
+    call_start(call, CALL_FRESH_WITH);
+    uint32_t limit = mille(c, 600) ? edged_limit(c) : outside_limit(c);
+    put_word(call->pieces[PIECE_LIMIT].bytes, limit);
+}
+
 /* What the image held before does not matter, so it holds something. */
 void draw_fresh(struct call *call, struct chance *c)
 {
     uint64_t span = any_span(c);
     uint8_t *bytes;
 
-    call_start(call, CALL_FRESH);
+    start_making(call, c);
     bytes = call->pieces[PIECE_SPAN].bytes;
     put_word(bytes, (uint32_t)span);
     put_word(bytes + WORD, (uint32_t)(span >> 32));

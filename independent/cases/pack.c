@@ -31,6 +31,12 @@ static uint32_t make_tiny(struct scene *s, uint32_t *code)
     return n;
 }
 
+/* A kernel that uses up its steps is run by one thread where they are many. */
+static uint32_t exact_threads(struct scene *s)
+{
+    return s->device.limit >= IND_LIMIT_DEFAULT ? 1 : 1 + below(s->c, 2);
+}
+
 /* The kernel made for a ring. */
 static uint32_t make_own(struct scene *s, uint32_t number, uint32_t ring,
                          uint32_t *code)
@@ -42,8 +48,8 @@ static uint32_t make_own(struct scene *s, uint32_t number, uint32_t ring,
         s->threads[number] = IND_SIDE_MOST;
         return make_tiny(s, code);
     }
-    s->threads[number] = style == STYLE_EXACT ? 1 + below(s->c, 2) : 3;
-    return make_kernel(s->c, style, window, code);
+    s->threads[number] = style == STYLE_EXACT ? exact_threads(s) : 3;
+    return make_kernel(s->c, style, window, s->device.limit, code);
 }
 
 /* Kernels that are no ring's are parts of the same code: they cost no words. */

@@ -3,7 +3,10 @@
 #include "cases/kernels/table.h"
 #include "cases/scene.h"
 
-enum { LOOP_STEPS = 6, WORDS_MOST = (IND_STEP_LIMIT - 20) / LOOP_STEPS };
+/* The words of the longest sum take three quarters of a job's limit. */
+enum {
+    LOOP_STEPS = 6, WORDS_MOST = IND_LIMIT_DEFAULT * 3 / 4 / LOOP_STEPS
+};
 
 /* s5 = 31·s5 + word over the window's words, one after another. */
 static uint32_t make_sum(uint32_t *code, uint32_t words)

@@ -6,7 +6,7 @@ enum { HEADER = IND_HEADER_BYTES, NOISE_MOST = 40 }; /* bytes */
 /* What was taken before: whole commands' worth of bytes, or any number. */
 static uint32_t any_cursor(struct scene *s)
 {
-    switch (below(s->c, 8)) {
+    switch (below(s->c, 14)) {
     case 0:
     case 1:
         return HEADER * (1 + below(s->c, 2));
@@ -55,7 +55,7 @@ static void add_head(struct scene *s, uint32_t ring)
     uint32_t size = add_command(s, ring, &command);
     if (s->heads[ring] == HEAD_CUT)
         cut(s, ring, size);
-    else if (mille(s->c, 250)) /* something behind it */
+    else if (mille(s->c, 150)) /* something behind it */
         add_noise(s, ring, 1 + below(s->c, 24));
 }
 

@@ -2,6 +2,7 @@
 
 #include <string.h>
 
+#include "cases/limits.h"
 #include "device/image.h"
 #include "device/parts.h"
 
@@ -14,6 +15,7 @@ void scene_start(struct scene *s, struct call *call, struct chance *c,
     s->odd = odd_mille;
     s->opcode = s->style = s->len = s->full = ANY;
     s->slots = 8;
+    s->device.limit = IND_LIMIT_DEFAULT;
     call_start(call, CALL_TURN);
 }
 
@@ -42,7 +44,7 @@ static uint32_t any_memory_len(struct chance *c)
 void draw_memory(struct scene *s, uint32_t length)
 {
     struct piece *memory = &s->call->pieces[PIECE_MEMORY];
-    uint32_t filled = mille(s->c, 850) ? 48 : 400;
+    uint32_t filled = mille(s->c, 930) ? 32 : 400;
 
     s->memory_len = length;
     piece_zeros(memory, length);
@@ -148,6 +150,8 @@ void draw_state(struct scene *s, uint32_t memory_len)
     draw_heads(s);
     if (s->opcode == ANY)
         s->opcode = any_opcode(s);
+    s->device.limit = s->style == STYLE_EXACT ? exact_limit(s->c)
+                                              : usual_limit(s->c);
     draw_memory(s, memory_len != 0 ? memory_len : any_memory_len(s->c));
     draw_slots(s);
     for (uint32_t i = 0; i < IND_RINGS; i++) {
@@ -166,7 +170,7 @@ void draw_pipe(struct scene *s)
     if (mille(s->c, 100))
         length += below(s->c, PIPE_ROOM_BESIDE + 1);
     piece_zeros(pipe, length);
-    edge_bytes(s->c, pipe->bytes, mille(s->c, 15) ? length : below(s->c, 16));
+    edge_bytes(s->c, pipe->bytes, mille(s->c, 5) ? length : below(s->c, 16));
 }
 
 void scene_done(struct scene *s)

@@ -10,7 +10,7 @@ work=$build/share-test
 mkdir -p "$work"
 wrong=0
 asked='if (memory_refused(device, lent->memory_len))'
-making='if (!memory_refused(device, memory_len))'
+making='if (memory_refused(device, memory_len))'
 lending='before->nulls = n % 2 == 1;'
 objects=$(cd "$top" && find device cases -name '*.c' ! -path device/device.c ! -path device/replay.c |
     sed "s|^|$build/|; s|c\$|o|")
@@ -79,7 +79,7 @@ echo "with one that refuses most turns"
 build_with "$asked" "if (lent->memory_len % 64 != 0 || memory_refused(device, lent->memory_len))"
 try_all 1
 echo "with one that makes no device"
-build_with "$making" "if (memory_len == UINT64_MAX && !memory_refused(device, memory_len))"
+build_with "$making" "if (memory_len != UINT64_MAX || memory_refused(device, memory_len))"
 try_calls 1
 echo "with the device as it is, and nothing lent as NULL"
 build_with "$asked" "$asked"

@@ -15,8 +15,8 @@ struct served {
 enum sight {
     SEEN_FENCE, SEEN_IRQ, SEEN_NO_IRQ, SEEN_WAIT, SEEN_WAIT_EQUAL,
     SEEN_WAIT_AND_EMIT, SEEN_FAULTY_WAIT, SEEN_LAST_SLOT, SEEN_WORDS,
-    SEEN_MEMORY, SEEN_KEPT_STORES, SEEN_THREADS, SEEN_STEP_4096,
-    SEEN_LATER_RING, SEEN_RING_END, SEEN_REWRITTEN, SEEN_LEN_0,
+    SEEN_MEMORY, SEEN_KEPT_STORES, SEEN_THREADS, SEEN_LAST_STEP,
+    SEEN_STEP_MORE, SEEN_LATER_RING, SEEN_RING_END, SEEN_REWRITTEN, SEEN_LEN_0,
     SEEN_LEN_0_OUTSIDE, SEEN_LEN_255, SEEN_WINDOW_END, SEEN_PAST_END,
     SEEN_OVERLAP, SEEN_EMPTY, SEEN_EMPTY_FAULTY, SEEN_FULL_WIDTH,
     SEEN_SIDE_64, SEEN_SIDE_65, SEEN_LAST_KERNEL, SEEN_NEXT_KERNEL,
@@ -25,8 +25,8 @@ enum sight {
 
 extern const char *const sight_names[SIGHTS];
 
-/* Adds 1 to each thing that this command shows; SEEN_STEP_4096 is left out,
- * as only the steps themselves tell it. */
+/* Adds 1 to each thing that this command shows; SEEN_LAST_STEP and
+ * SEEN_STEP_MORE are left out, as only the steps themselves tell them. */
 void see_served(const struct served *v, uint64_t counts[SIGHTS]);
 
 #endif

@@ -1,6 +1,7 @@
 /* Reasons for a call to be refused, and near misses of them. */
 #include "cases/draw.h"
 #include "cases/kernels/packs.h"
+#include "cases/limits.h"
 #include "cases/words.h"
 #include "device/image.h"
 #include "device/parts.h"
@@ -61,6 +62,13 @@ static void spoil_marker(struct call *call, struct chance *c)
     static const uint32_t markers[4] = { 3, 4, 5, 0xFFFFFFFF };
 
     put_word(image_word(call, 0, IND_IMAGE_MARKER), markers[below(c, 4)]);
+}
+
+static void spoil_limit(struct call *call, struct chance *c)
+{
+    uint32_t limit = mille(c, 800) ? outside_limit(c) : edged_limit(c);
+
+    put_word(image_word(call, 0, IND_IMAGE_LIMIT), limit);
 }
 
 static void spoil_cursor(struct call *call, struct chance *c)
@@ -156,7 +164,8 @@ static void spoil_pack(struct call *call, struct chance *c)
     static uint8_t bytes[PACK_MOST];
     struct piece *pack = &call->pieces[PIECE_PACK];
 
-    if (mille(c, 400)) {
+    /* the long ones are zeros, and better left alone */
+    if (pack->length <= 4096 && mille(c, 400)) {
         piece_end(pack, damage_pack(c, pack->bytes, (uint32_t)pack->length));
         return;
     }
@@ -170,9 +179,9 @@ static void spoil_pack(struct call *call, struct chance *c)
 void spoil_call(struct call *call, struct chance *c)
 {
     static void (*const ways[])(struct call *, struct chance *) = {
-        spoil_memory, spoil_window, spoil_marker, spoil_cursor, spoil_frame,
-        spoil_frame, spoil_ring, spoil_ring, spoil_pipe, spoil_pipe,
-        spoil_pack, spoil_pack, spoil_pack, spoil_pack
+        spoil_memory, spoil_window, spoil_marker, spoil_limit, spoil_limit,
+        spoil_cursor, spoil_frame, spoil_frame, spoil_ring, spoil_ring,
+        spoil_pipe, spoil_pipe, spoil_pack, spoil_pack, spoil_pack, spoil_pack
     };
     uint32_t count = mille(c, 600) ? 1 : 2 + below(c, 2);
 

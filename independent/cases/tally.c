@@ -10,7 +10,15 @@
 
 enum {
     REFUSALS = IND_REFUSED_PACK - IND_REFUSED_MEMORY + 1,
-    WRONGS = IND_WRONG_WINDOWS - IND_WRONG_IMAGE + 1, OPCODES = 8
+    WRONGS = IND_WRONG_WINDOWS - IND_WRONG_IMAGE + 1, OPCODES = 8,
+    LIMITS = 9
+};
+
+/* Limits of steps are counted by spans, each up to one of these. */
+static const uint32_t limits[LIMITS] = {
+    IND_LIMIT_LEAST, 2, IND_LIMIT_DEFAULT / 4 - 1, IND_LIMIT_DEFAULT / 4,
+    IND_LIMIT_DEFAULT - 1, IND_LIMIT_DEFAULT, IND_LIMIT_MOST - 2,
+    IND_LIMIT_MOST - 1, IND_LIMIT_MOST
 };
 
 static const struct {
@@ -24,9 +32,10 @@ static const struct {
 };
 
 static struct {
-    uint64_t calls, fresh[2], idle, refused[REFUSALS], wrong[WRONGS];
+    uint64_t calls, fresh[2], fresh_with[3], fresh_with_both;
+    uint64_t idle, refused[REFUSALS], refused_limit, wrong[WRONGS];
     uint64_t outcome[IND_OUTCOMES], opcode_done[OPCODES], row[ROWS];
-    uint64_t sight[SIGHTS], steps, most_steps;
+    uint64_t sight[SIGHTS], steps, most_steps, limit[LIMITS];
     uint64_t with_nulls, null[PIECES];
 } count;
 
@@ -35,30 +44,39 @@ static struct {
 struct trace {
     uint8_t seen[ROWS];
     uint64_t steps;
-    int last_step_ends;
+    int last_step_ends, step_more_ends;
 };
+
+/* Whether the word that a thread is at ends it. */
+static int wfi_is_next(const struct ind_thread *thread,
+                       const struct ind_kernel *kernel)
+{
+    return thread->place < WORD * kernel->words
+        && ind_get(kernel->code + thread->place, WORD) == table[ROW_WFI].match;
+}
 
 static uint32_t trace_thread(struct trace *trace, struct ind_thread *thread,
                              const struct ind_kernel *kernel,
-                             const struct ind_window *window)
+                             const struct ind_window *window, uint32_t limit)
 {
     uint32_t answer = IND_GOES_ON;
 
     while (answer == IND_GOES_ON) {
         uint32_t place = thread->place, steps = thread->steps;
-        answer = ind_step(thread, kernel, window, IND_STEP_LIMIT);
+        answer = ind_step(thread, kernel, window, limit);
         if (thread->steps != steps) /* a stop is no step */
             trace->seen[row_of(ind_get(kernel->code + place, WORD))] = 1;
     }
     trace->steps += thread->steps;
-    trace->last_step_ends |= answer == IND_ENDED
-        && thread->steps == IND_STEP_LIMIT;
+    trace->last_step_ends |= answer == IND_ENDED && thread->steps == limit;
+    trace->step_more_ends |= answer == IND_STEPS_SPENT
+        && wfi_is_next(thread, kernel);
     return answer;
 }
 
 static void trace_dispatch(struct trace *trace, const struct call *before,
                            const struct ind_command *command,
-                           const struct ind_ring *ring)
+                           const struct ind_ring *ring, uint32_t limit)
 {
     const struct piece *memory = &before->pieces[PIECE_MEMORY];
     const struct piece *pack = &before->pieces[PIECE_PACK];
@@ -79,9 +97,18 @@ static void trace_dispatch(struct trace *trace, const struct call *before,
         struct ind_thread thread;
         ind_thread_start(&thread, n / command->arg1, n % command->arg1,
                          command->arg1, command->arg0);
-        answer = trace_thread(trace, &thread, &kernel, &window);
+        answer = trace_thread(trace, &thread, &kernel, &window, limit);
     }
     free(copy);
+}
+
+static void count_limit(uint32_t limit)
+{
+    int span = 0;
+
+    while (limits[span] < limit)
+        span++;
+    count.limit[span]++;
 }
 
 static void count_trace(const struct trace *trace)
@@ -91,7 +118,8 @@ static void count_trace(const struct trace *trace)
     count.steps += trace->steps;
     if (trace->steps > count.most_steps)
         count.most_steps = trace->steps;
-    count.sight[SEEN_STEP_4096] += (uint64_t)trace->last_step_ends;
+    count.sight[SEEN_LAST_STEP] += (uint64_t)trace->last_step_ends;
+    count.sight[SEEN_STEP_MORE] += (uint64_t)trace->step_more_ends;
 }
 
 /* ---- calls ---- */
@@ -106,7 +134,7 @@ static int ran(const struct served *v)
 static void tally_served(const struct call *before, const struct call *after)
 {
     struct served v = { .before = before, .after = after };
-    struct trace trace = {{0}, 0, 0};
+    struct trace trace = {{0}, 0, 0, 0};
 
     ind_report_decode(after->pieces[PIECE_REPORT].bytes, &v.report);
     ind_image_decode(before->pieces[PIECE_DEVICE].bytes, &v.device);
@@ -120,8 +148,9 @@ static void tally_served(const struct call *before, const struct call *after)
         count.opcode_done[i] += v.report.outcome == IND_DONE
             && opcodes[i].opcode == v.command.opcode;
     if (ran(&v)) {
-        trace_dispatch(&trace, before, &v.command, own);
+        trace_dispatch(&trace, before, &v.command, own, v.device.limit);
         count_trace(&trace);
+        count_limit(v.device.limit);
     }
 }
 
@@ -134,6 +163,32 @@ static void tally_nulls(const struct call *before)
         count.null[i] += (uint64_t)call_lends_empty(before, i);
 }
 
+static int limit_outside(uint32_t limit)
+{
+    return limit < IND_LIMIT_LEAST || limit > IND_LIMIT_MOST;
+}
+
+static void tally_making(const struct call *after, uint32_t answer)
+{
+    if (after->kind == CALL_FRESH) {
+        count.fresh[answer != 0]++;
+        return;
+    }
+    count.fresh_with[answer == 0 ? 0 : answer - IND_REFUSED_MEMORY + 1]++;
+    count.fresh_with_both += answer == IND_REFUSED_MEMORY
+        && limit_outside(call_limit(after));
+}
+
+static void tally_refused(const struct call *before, uint32_t answer)
+{
+    struct ind_device device;
+
+    ind_image_decode(before->pieces[PIECE_DEVICE].bytes, &device);
+    count.refused[answer - IND_REFUSED_MEMORY]++;
+    count.refused_limit += answer == IND_REFUSED_STATE
+        && limit_outside(device.limit);
+}
+
 void tally_call(const struct call *before, const struct call *after)
 {
     uint32_t answer = call_answer(after);
@@ -142,12 +197,12 @@ void tally_call(const struct call *before, const struct call *after)
     tally_nulls(before);
     if (answer >= IND_WRONG_IMAGE && answer <= IND_WRONG_WINDOWS) {
         count.wrong[answer - IND_WRONG_IMAGE]++;
-    } else if (after->kind == CALL_FRESH) {
-        count.fresh[answer != 0]++;
+    } else if (after->kind != CALL_TURN) {
+        tally_making(after, answer);
     } else if (answer == IND_IDLE) {
         count.idle++;
     } else if (answer >= IND_REFUSED_MEMORY) {
-        count.refused[answer - IND_REFUSED_MEMORY]++;
+        tally_refused(before, answer);
     } else {
         tally_served(before, after);
     }
@@ -182,6 +237,24 @@ static void title(FILE *out, const char *text)
         fprintf(out, "%s\n", text);
 }
 
+static int limit_lines(FILE *out)
+{
+    uint32_t first = IND_LIMIT_LEAST;
+    char name[32];
+    int missing = 0;
+
+    for (int i = 0; i < LIMITS; i++) {
+        if (first == limits[i])
+            snprintf(name, sizeof name, "limit %" PRIu32, first);
+        else
+            snprintf(name, sizeof name, "limit %" PRIu32 " to %" PRIu32, first,
+                     limits[i]);
+        missing += line(out, name, count.limit[i]);
+        first = limits[i] + 1;
+    }
+    return missing;
+}
+
 static int table_of(FILE *out)
 {
     int missing = 0;
@@ -189,6 +262,9 @@ static int table_of(FILE *out)
     title(out, "calls by what they answer");
     missing += line(out, "fresh 0", count.fresh[0]);
     missing += line(out, "fresh 101", count.fresh[1]);
+    missing += line(out, "fresh_with 0", count.fresh_with[0]);
+    missing += line(out, "fresh_with 101", count.fresh_with[1]);
+    missing += line(out, "fresh_with 102", count.fresh_with[2]);
     missing += line(out, "idle", count.idle);
     missing += lines(out, "refused %u", IND_REFUSED_MEMORY, count.refused,
                      REFUSALS);
@@ -197,6 +273,11 @@ static int table_of(FILE *out)
     title(out, "calls with outcome 0, by opcode");
     for (int i = 0; i < OPCODES; i++)
         missing += line(out, opcodes[i].name, count.opcode_done[i]);
+    title(out, "calls with a limit of steps outside its bounds");
+    missing += line(out, "fresh_with 101", count.fresh_with_both);
+    missing += line(out, "refused 102", count.refused_limit);
+    title(out, "calls that ran a kernel, by the limit of steps");
+    missing += limit_lines(out);
     title(out, "calls that show");
     for (int i = 0; i < SIGHTS; i++)
         missing += line(out, sight_names[i], count.sight[i]);

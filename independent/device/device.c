@@ -19,25 +19,46 @@ static int memory_refused(const struct ind_device *device, uint64_t memory_len)
     return 0;
 }
 
-uint32_t ind_fresh(struct ind_device *device, uint64_t memory_len,
-                   const uint32_t windows[IND_RINGS][2])
+static int limit_fits(uint32_t limit)
 {
-    const struct ind_device empty = {.marker = 0}; /* and all else 0 too */
+    return limit >= IND_LIMIT_LEAST && limit <= IND_LIMIT_MOST;
+}
+
+/* 101, then 102, or 0. */
+static uint32_t making_refusal(const struct ind_device *device,
+                               uint64_t memory_len)
+{
+    if (memory_refused(device, memory_len))
+        return IND_REFUSED_MEMORY;
+    return limit_fits(device->limit) ? 0 : IND_REFUSED_STATE;
+}
+
+uint32_t ind_fresh_with(struct ind_device *device, uint64_t memory_len,
+                        const uint32_t windows[IND_RINGS][2], uint32_t limit)
+{
+    const struct ind_device empty = {.limit = IND_LIMIT_DEFAULT}; /* else 0 */
 
     *device = empty;
+    device->limit = limit;
     for (uint32_t i = 0; i < IND_RINGS; i++) {
         device->rings[i].window_start = windows[i][0];
         device->rings[i].window_length = windows[i][1];
     }
-    if (!memory_refused(device, memory_len))
-        return 0;
-    *device = empty;
-    return IND_REFUSED_MEMORY;
+    uint32_t refused = making_refusal(device, memory_len);
+    if (refused != 0)
+        *device = empty;
+    return refused;
+}
+
+uint32_t ind_fresh(struct ind_device *device, uint64_t memory_len,
+                   const uint32_t windows[IND_RINGS][2])
+{
+    return ind_fresh_with(device, memory_len, windows, IND_LIMIT_DEFAULT);
 }
 
 static int state_refused(const struct ind_device *device)
 {
-    if (device->marker >= IND_RINGS)
+    if (device->marker >= IND_RINGS || !limit_fits(device->limit))
         return 1;
     for (uint32_t i = 0; i < IND_RINGS; i++) {
         const struct ind_ring *ring = &device->rings[i];
@@ -99,7 +120,7 @@ static uint32_t outcome_of(struct ind_device *device, uint32_t ring,
     if (outcome == IND_DONE)
         outcome = ind_work_fault(device, ring, command, lent);
     if (outcome == IND_DONE)
-        outcome = ind_work(&device->rings[ring], command, lent);
+        outcome = ind_work(device, ring, command, lent);
     return outcome;
 }
 

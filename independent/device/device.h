@@ -21,7 +21,9 @@ enum {
     IND_PAIR_BYTES = 8,        /* of a window, or of a kernel in its pack */
     IND_PACK_LEAST = 8,        /* bytes: two counts of 0 */
     IND_SIDE_MOST = 64,        /* groups, and threads in a group */
-    IND_STEP_LIMIT = 4096,     /* steps a thread may take */
+    IND_LIMIT_LEAST = 1,       /* steps a thread may take */
+    IND_LIMIT_MOST = 65536,
+    IND_LIMIT_DEFAULT = 16384, /* where none is named */
     IND_RINGS = 4,
     IND_SLOTS = 64,
     IND_REGISTERS = 32,
@@ -75,6 +77,7 @@ struct ind_device {
     struct ind_ring rings[IND_RINGS];
     uint32_t slots[IND_SLOTS];
     uint32_t marker;
+    uint32_t limit; /* of steps */
 };
 
 struct ind_report {
@@ -82,10 +85,15 @@ struct ind_report {
     uint32_t ring, outcome, fence, words_read, irq;
 };
 
-/* Makes a fresh device; windows are pairs (start, length).
+/* Makes a fresh device of the default limit; windows are pairs (start, length).
  * Gives 0, or 101 and then a fresh device of four empty windows at 0. */
 uint32_t ind_fresh(struct ind_device *device, uint64_t memory_len,
                    const uint32_t windows[IND_RINGS][2]);
+
+/* The same with a limit that is named. Gives 102 too, after 101; with either
+ * comes the device that ind_fresh gives with 101. */
+uint32_t ind_fresh_with(struct ind_device *device, uint64_t memory_len,
+                        const uint32_t windows[IND_RINGS][2], uint32_t limit);
 
 /* Takes one turn and gives the report's status.
  * Any bytes and any device state may be handed in. */
@@ -144,9 +152,9 @@ uint32_t ind_step(struct ind_thread *thread, const struct ind_kernel *kernel,
 uint32_t ind_run(struct ind_thread *thread, const struct ind_kernel *kernel,
                  const struct ind_window *window, uint32_t limit);
 
-/* A whole dispatch under IND_STEP_LIMIT: 0, or 11 to 14. */
+/* A whole dispatch, each thread under the limit: 0, or 11 to 14. */
 uint32_t ind_dispatch(const struct ind_kernel *kernel,
                       const struct ind_window *window, uint32_t groups,
-                      uint32_t threads);
+                      uint32_t threads, uint32_t limit);
 
 #endif

@@ -32,6 +32,7 @@ void ind_image_encode(const struct ind_device *device, uint8_t *image)
     for (uint32_t i = 0; i < IND_SLOTS; i++)
         put_next(&image, device->slots[i]);
     put_next(&image, device->marker);
+    put_next(&image, device->limit);
 }
 
 void ind_image_decode(const uint8_t *image, struct ind_device *device)
@@ -49,6 +50,7 @@ void ind_image_decode(const uint8_t *image, struct ind_device *device)
     for (uint32_t i = 0; i < IND_SLOTS; i++)
         device->slots[i] = get_next(&image);
     device->marker = get_next(&image);
+    device->limit = get_next(&image);
 }
 
 void ind_report_encode(const struct ind_report *report, uint8_t *bytes)
@@ -71,9 +73,9 @@ void ind_report_decode(const uint8_t *bytes, struct ind_report *report)
     report->irq = get_next(&bytes);
 }
 
-uint32_t ind_fv_fresh(uint8_t *device, size_t device_len,
-                      const uint8_t *windows, size_t windows_len,
-                      uint64_t memory_len)
+uint32_t ind_fv_fresh_with(uint8_t *device, size_t device_len,
+                           const uint8_t *windows, size_t windows_len,
+                           uint64_t memory_len, uint32_t limit)
 {
     uint32_t pairs[IND_RINGS][2];
     struct ind_device made;
@@ -86,9 +88,17 @@ uint32_t ind_fv_fresh(uint8_t *device, size_t device_len,
         pairs[i][0] = get_next(&windows);
         pairs[i][1] = get_next(&windows);
     }
-    uint32_t answer = ind_fresh(&made, memory_len, pairs);
+    uint32_t answer = ind_fresh_with(&made, memory_len, pairs, limit);
     ind_image_encode(&made, device);
     return answer;
+}
+
+uint32_t ind_fv_fresh(uint8_t *device, size_t device_len,
+                      const uint8_t *windows, size_t windows_len,
+                      uint64_t memory_len)
+{
+    return ind_fv_fresh_with(device, device_len, windows, windows_len,
+                             memory_len, IND_LIMIT_DEFAULT);
 }
 
 /* Only a served turn writes the image: it stays byte for byte otherwise. */

@@ -1,6 +1,6 @@
-/* The device as bytes: an image and a report, and the two calls on them. They
- * have the interface of the other device's fv_fresh and fv_turn, so that both
- * can be linked into one program. */
+/* The device as bytes: an image and a report, and the three calls on them. They
+ * have the interface of the other device's fv_fresh, fv_fresh_with and fv_turn,
+ * so that both can be linked into one program. */
 #ifndef IND_IMAGE_H
 #define IND_IMAGE_H
 
@@ -17,6 +17,7 @@ enum {
 enum {
     IND_IMAGE_SLOTS = IND_RINGS * IND_IMAGE_RING_WORDS,
     IND_IMAGE_MARKER = IND_IMAGE_SLOTS + IND_SLOTS,
+    IND_IMAGE_LIMIT,
     IND_IMAGE_WORDS
 };
 
@@ -51,6 +52,11 @@ void ind_report_decode(const uint8_t *bytes, struct ind_report *report);
 uint32_t ind_fv_fresh(uint8_t *device, size_t device_len,
                       const uint8_t *windows, size_t windows_len,
                       uint64_t memory_len);
+
+/* The same with a limit of steps that is named; 102 too. */
+uint32_t ind_fv_fresh_with(uint8_t *device, size_t device_len,
+                           const uint8_t *windows, size_t windows_len,
+                           uint64_t memory_len, uint32_t limit);
 
 /* Gives the report's first word; or 201 or 202. */
 uint32_t ind_fv_turn(uint8_t *device, size_t device_len, uint8_t *memory,

@@ -183,13 +183,13 @@ uint32_t ind_run(struct ind_thread *thread, const struct ind_kernel *kernel,
 
 uint32_t ind_dispatch(const struct ind_kernel *kernel,
                       const struct ind_window *window, uint32_t groups,
-                      uint32_t threads)
+                      uint32_t threads, uint32_t limit)
 {
     for (uint32_t group = 0; group < groups; group++) {
         for (uint32_t number = 0; number < threads; number++) {
             struct ind_thread thread;
             ind_thread_start(&thread, group, number, threads, groups);
-            uint32_t outcome = ind_run(&thread, kernel, window, IND_STEP_LIMIT);
+            uint32_t outcome = ind_run(&thread, kernel, window, limit);
             if (outcome != IND_DONE)
                 return outcome;
         }

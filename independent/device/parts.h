@@ -120,7 +120,8 @@ uint32_t ind_work_fault(const struct ind_device *device, uint32_t ring,
 
 /* ---- work.c: a faultless command's work ---- */
 
-uint32_t ind_work(struct ind_ring *ring, const struct ind_command *command,
+uint32_t ind_work(struct ind_device *device, uint32_t ring,
+                  const struct ind_command *command,
                   const struct ind_lent *lent);
 
 #endif

@@ -46,21 +46,23 @@ static void draw_rectangle(const struct ind_window *window,
 /* That there is such a kernel was seen to under outcome 10. */
 static uint32_t dispatch(const struct ind_window *window,
                          const struct ind_command *command,
-                         const struct ind_lent *lent)
+                         const struct ind_lent *lent, uint32_t limit)
 {
     struct ind_kernel kernel;
 
     if (!ind_kernel_extent(lent->pack, lent->pack_len, command->arg2, &kernel))
         return IND_BAD_DISPATCH;
-    return ind_dispatch(&kernel, window, command->arg0, command->arg1);
+    return ind_dispatch(&kernel, window, command->arg0, command->arg1, limit);
 }
 
 /* Gives 0, or a dispatch's 11 to 14. */
-uint32_t ind_work(struct ind_ring *ring, const struct ind_command *command,
+uint32_t ind_work(struct ind_device *device, uint32_t ring,
+                  const struct ind_command *command,
                   const struct ind_lent *lent)
 {
+    struct ind_ring *own = &device->rings[ring];
     const struct ind_window window = {
-        lent->memory, ring->window_start, ring->window_length
+        lent->memory, own->window_start, own->window_length
     };
 
     switch (command->opcode) {
@@ -75,13 +77,13 @@ uint32_t ind_work(struct ind_ring *ring, const struct ind_command *command,
         break;
     case FILL_RECT:
     case BLIT:
-        draw_rectangle(&window, command, ring->frame.stride);
+        draw_rectangle(&window, command, own->frame.stride);
         break;
     case SET_FB:
-        ring->frame = ind_frame_asked(command);
+        own->frame = ind_frame_asked(command);
         break;
     case DISPATCH_1D:
-        return dispatch(&window, command, lent);
+        return dispatch(&window, command, lent, device->limit);
     default: /* BARRIER: each command ends in its turn anyway */
         break;
     }

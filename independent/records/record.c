@@ -23,7 +23,7 @@ static int record_case(uint64_t seed, uint64_t number, struct call *before,
     enum case_kind kind = draw_case(before, seed, number);
 
     call_copy(after, before);
-    call_make(after, ind_fv_fresh, ind_fv_turn);
+    call_make(after, ind_fv_fresh, ind_fv_fresh_with, ind_fv_turn);
     size_t bytes = record_write(stdout, before, after, LONGEST);
     if (bytes == 0)
         return 0;

@@ -11,7 +11,7 @@
 static int differs(uint64_t number, struct call *again,
                    const struct call *after)
 {
-    call_make(again, ind_fv_fresh, ind_fv_turn);
+    call_make(again, ind_fv_fresh, ind_fv_fresh_with, ind_fv_turn);
     int piece = call_difference(again, after);
     if (piece >= 0)
         printf("call %" PRIu64 ": %s differs\n", number, piece_names[piece]);

@@ -19,6 +19,11 @@ static const struct part fresh_parts[] = {
     { PIECE_DEVICE, 1 }, { PIECE_ANSWER, 1 }
 };
 
+static const struct part fresh_with_parts[] = {
+    { PIECE_WINDOWS, 0 }, { PIECE_SPAN, 0 }, { PIECE_DEVICE, 0 },
+    { PIECE_DEVICE, 1 }, { PIECE_ANSWER, 1 }, { PIECE_LIMIT, 0 }
+};
+
 static const struct part turn_parts[] = {
     { PIECE_DEVICE, 0 }, { PIECE_MEMORY, 0 }, { PIECE_RING, 0 },
     { PIECE_RING + 1, 0 }, { PIECE_RING + 2, 0 }, { PIECE_RING + 3, 0 },
@@ -30,8 +35,17 @@ static const struct part turn_parts[] = {
 
 static const struct part *parts_of(enum call_kind kind, size_t *count)
 {
-    *count = kind == CALL_FRESH ? COUNT(fresh_parts) : COUNT(turn_parts);
-    return kind == CALL_FRESH ? fresh_parts : turn_parts;
+    switch (kind) {
+    case CALL_FRESH:
+        *count = COUNT(fresh_parts);
+        return fresh_parts;
+    case CALL_FRESH_WITH:
+        *count = COUNT(fresh_with_parts);
+        return fresh_with_parts;
+    default:
+        *count = COUNT(turn_parts);
+        return turn_parts;
+    }
 }
 
 /* Zeros at the end of a piece are not stored. */
@@ -136,7 +150,7 @@ int record_read(FILE *in, struct call *before, struct call *after)
         return 0;
     uint32_t length = got == sizeof word ? get_word(word) : 0;
     if (length < WORD || length > RECORD_MOST
-        || fread(body, 1, length, in) != length || get_word(body) > CALL_TURN)
+        || fread(body, 1, length, in) != length || get_word(body) >= CALL_KINDS)
         return -1;
     call_start(before, (enum call_kind)get_word(body));
     call_start(after, before->kind);

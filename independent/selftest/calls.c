@@ -12,6 +12,7 @@ static void fresh_devices(void)
     struct ind_device device, empty;
 
     memset(&empty, 0, sizeof empty);
+    empty.limit = IND_LIMIT_DEFAULT;
     memset(&device, 0xEE, sizeof device);
     CHECK_EQ(ind_fresh(&device, 16, good), 0);
     CHECK_EQ(device.rings[2].window_start, 8);

@@ -12,7 +12,8 @@ enum {
     HELD = 4 * IND_IMAGE_HELD,
     BASE = 4 * IND_IMAGE_BASE,
     STRIDE = 4 * IND_IMAGE_STRIDE,
-    MARKER = 4 * IND_IMAGE_MARKER
+    MARKER = 4 * IND_IMAGE_MARKER,
+    LIMIT = 4 * IND_IMAGE_LIMIT
 };
 
 /* A turn on bytes: four times the same ring, and an empty pack. */
@@ -50,6 +51,10 @@ static void wrong_lengths(void)
     memcpy(kept, image, sizeof kept);
     CHECK_EQ(ind_fv_fresh(image, RIGHT + 1, windows, windows_len, 0), 201);
     CHECK_EQ(ind_fv_fresh(image, RIGHT, windows, windows_len, 0), 203);
+    CHECK_EQ(ind_fv_fresh_with(image, RIGHT - 1, windows, windows_len,
+                               UINT64_MAX, 0), 201);
+    CHECK_EQ(ind_fv_fresh_with(image, RIGHT, windows, windows_len, UINT64_MAX,
+                               0), 203);
     CHECK_EQ(turn(image, RIGHT - 1, NULL, 0, report, report_len), 201);
     CHECK_EQ(turn(image, RIGHT, NULL, 0, report, report_len), 202);
     CHECK(memcmp(image, kept, sizeof kept) == 0);
@@ -64,8 +69,73 @@ static void refused_fresh(void)
     memset(image, 0x55, sizeof image);
     CHECK_EQ(ind_fv_fresh(image, sizeof image, windows, sizeof windows, 3),
              101);
-    for (size_t i = 0; i < sizeof image; i++)
+    CHECK_EQ(get_word(image + LIMIT), 16384);
+    for (size_t i = 0; i < LIMIT; i++)
         CHECK_EQ(image[i], 0);
+}
+
+/* Makes a device with this limit of a memory of so many bytes, in windows that
+ * need 64; gives the answer. */
+static uint32_t make_with(uint8_t *image, uint64_t memory_len, uint32_t limit)
+{
+    uint8_t windows[IND_WINDOWS_BYTES] = {0};
+
+    put_word(windows + 4, 64);
+    memset(image, 0x55, IND_IMAGE_BYTES);
+    return ind_fv_fresh_with(image, IND_IMAGE_BYTES, windows, sizeof windows,
+                             memory_len, limit);
+}
+
+/* Word 93 is the limit; all else is as it is where none is named. */
+static void limit_in_the_image(void)
+{
+    const uint32_t limits[] = {1, 2, 4096, 16384, 65535, 65536};
+    const uint32_t outside[] = {0, 65537, 0x80000000, 0xFFFFFFFF};
+    uint8_t made[IND_IMAGE_BYTES], image[IND_IMAGE_BYTES];
+    uint8_t empty[IND_IMAGE_BYTES] = {0};
+
+    CHECK_EQ(IND_IMAGE_LIMIT, 93);
+    CHECK_EQ(IND_IMAGE_BYTES, 376);
+    put_word(empty + LIMIT, 16384);
+    memcpy(made, empty, sizeof made);
+    put_word(made + 4, 64);
+    for (uint32_t i = 0; i < sizeof limits / 4; i++) {
+        put_word(made + LIMIT, limits[i]);
+        CHECK_EQ(make_with(image, 64, limits[i]), 0);
+        CHECK(memcmp(image, made, sizeof image) == 0);
+        CHECK_EQ(make_with(image, 63, limits[i]), 101);
+        CHECK(memcmp(image, empty, sizeof image) == 0);
+    }
+    for (uint32_t i = 0; i < sizeof outside / 4; i++) {
+        CHECK_EQ(make_with(image, 64, outside[i]), 102);
+        CHECK(memcmp(image, empty, sizeof image) == 0);
+        CHECK_EQ(make_with(image, 63, outside[i]), 101);
+        CHECK(memcmp(image, empty, sizeof image) == 0);
+    }
+}
+
+/* A turn reads the limit from word 93, and writes it back as it was. */
+static void limit_through_a_turn(void)
+{
+    const uint8_t barrier[IND_HEADER_BYTES] = {0x22};
+    const uint32_t limits[] = {0, 1, 16384, 65536, 65537};
+    uint8_t image[IND_IMAGE_BYTES], kept[IND_IMAGE_BYTES];
+    uint8_t report[IND_REPORT_BYTES];
+
+    for (uint32_t i = 0; i < sizeof limits / 4; i++) {
+        int fits = i != 0 && i != 4;
+        fresh_image(image);
+        put_word(image + LIMIT, limits[i]);
+        memcpy(kept, image, sizeof kept);
+        CHECK_EQ(turn(image, sizeof image, barrier, 15, report, sizeof report),
+                 fits ? 1 : 102);
+        CHECK(memcmp(image, kept, sizeof kept) == 0);
+        CHECK_EQ(turn(image, sizeof image, barrier, 16, report, sizeof report),
+                 fits ? 0 : 102);
+        CHECK_EQ(get_word(report), fits ? 0 : 102);
+        CHECK_EQ(get_word(image + LIMIT), limits[i]);
+        CHECK_EQ(memcmp(image, kept, sizeof kept) == 0, !fits);
+    }
 }
 
 /* A held flag of 7 and an unset frame's words: left by an idle turn, written
@@ -121,5 +191,7 @@ void test_image(void)
     every_word_is_kept();
     wrong_lengths();
     refused_fresh();
+    limit_in_the_image();
+    limit_through_a_turn();
     rough_frames();
 }

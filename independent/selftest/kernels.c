@@ -26,7 +26,7 @@ static uint32_t step(struct rig *rig, const uint32_t *words, uint32_t count)
 
     for (uint32_t i = 0; i < count; i++)
         put_word(code + 4 * i, words[i]);
-    return ind_step(&rig->thread, &kernel, &window, IND_STEP_LIMIT);
+    return ind_step(&rig->thread, &kernel, &window, IND_LIMIT_DEFAULT);
 }
 
 static uint32_t step_one(struct rig *rig, uint32_t word)
@@ -336,12 +336,12 @@ static void order_of_stops(void)
     struct rig rig;
 
     rig_start(&rig);
-    rig.thread.steps = IND_STEP_LIMIT;
+    rig.thread.steps = IND_LIMIT_DEFAULT;
     CHECK_EQ(step(&rig, bad, 1), 14);
     CHECK_EQ(step(&rig, end, 1), 14);
     rig.thread.place = 4;
     CHECK_EQ(step(&rig, bad, 1), 14);
-    rig.thread.steps = IND_STEP_LIMIT - 1;
+    rig.thread.steps = IND_LIMIT_DEFAULT - 1;
     CHECK_EQ(step(&rig, bad, 1), 12);
     rig.thread.place = 2;
     CHECK_EQ(step(&rig, end, 1), 12);
@@ -349,9 +349,9 @@ static void order_of_stops(void)
     CHECK_EQ(step(&rig, bad, 1), 11);
     CHECK_EQ(step(&rig, far, 1), 13);
     CHECK_EQ(step(&rig, to_end, 1), 12); /* at the branch, not 14 after it */
-    CHECK_EQ(rig.thread.steps, IND_STEP_LIMIT - 1);
+    CHECK_EQ(rig.thread.steps, IND_LIMIT_DEFAULT - 1);
     CHECK_EQ(step(&rig, end, 1), IND_ENDED);
-    CHECK_EQ(rig.thread.steps, IND_STEP_LIMIT);
+    CHECK_EQ(rig.thread.steps, IND_LIMIT_DEFAULT);
 }
 
 /* A thread's limit is a parameter: each run takes just so many steps. */

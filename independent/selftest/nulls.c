@@ -50,6 +50,7 @@ static void start(struct lent *lent)
     }
     put_word(lent->bytes[RING + 3] + 4, 1);
     put_word(lent->bytes[RING + 3] + 8, 1);
+    put_word(lent->bytes[IMAGE] + 4 * IND_IMAGE_LIMIT, IND_LIMIT_DEFAULT);
     lent->length[IMAGE] = IND_IMAGE_BYTES;
     lent->length[PACK] = sizeof pack;
     lent->length[PIPE] = IND_PIPE_LEAST;
@@ -111,6 +112,9 @@ static void fresh(void)
     CHECK_EQ(ind_fv_fresh(NULL, 0, windows, sizeof windows, 0), 201);
     CHECK_EQ(ind_fv_fresh(image, sizeof image, NULL, 0, 0), 203);
     CHECK_EQ(ind_fv_fresh(NULL, 0, NULL, 0, 0), 201);
+    CHECK_EQ(ind_fv_fresh_with(NULL, 0, windows, sizeof windows, 0, 1), 201);
+    CHECK_EQ(ind_fv_fresh_with(image, sizeof image, NULL, 0, 0, 1), 203);
+    CHECK_EQ(ind_fv_fresh_with(NULL, 0, NULL, 0, 0, 1), 201);
 }
 
 void test_nulls(void)

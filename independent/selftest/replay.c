@@ -179,6 +179,33 @@ static void work_is_replayed(void)
     replays_as(&input, "1 0 0 1 0\n2 0 0 2 2\n3 0 8 3 0\nidle 3\n");
 }
 
+/* A job names no limit: a WFI that is step 16,384 ends, a step later it is
+ * outcome 14. */
+static void limit_of_a_job(void)
+{
+    for (uint32_t later = 0; later < 2; later++) {
+        const uint32_t rest[] = {
+            0, 0, 0, 1, 0, 7, 7,
+            2u << 12 | 5 << 7 | LUI,        /* s5 = 8192: step 1 */
+            i_shape(INT_IMM, 0, 5, 5, -2),  /* 8190 rounds of two steps */
+            i_shape(INT_IMM, 0, 5, 5, -1),
+            b_shape(1, 5, 0, -4),           /* ends as step 16382 */
+            MEMBAR, later == 0 ? WFI : MEMBAR, WFI, 0
+        };
+        struct input input = {{0}, 0};
+        add_windows(&input, 0, 0);
+        add(&input, 16);
+        add(&input, 0x20);
+        add(&input, 1);
+        add(&input, 1);
+        add(&input, 0);
+        for (size_t i = 0; i < sizeof rest / 4; i++)
+            add(&input, rest[i]);
+        replays_as(&input, later == 0 ? "1 0 0 0 0\nidle 1\n"
+                                      : "1 0 14 0 0\nidle 1\n");
+    }
+}
+
 void test_replay(void)
 {
     struct input whole = whole_case();
@@ -188,4 +215,5 @@ void test_replay(void)
     faulty_sections();
     kernels_and_memory();
     work_is_replayed();
+    limit_of_a_job();
 }

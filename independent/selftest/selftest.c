@@ -41,7 +41,7 @@ static uint32_t run_word(struct ind_thread *thread, uint32_t word)
 
     put_word(code, word);
     thread->place = 0;
-    return ind_step(thread, &kernel, &window, IND_STEP_LIMIT);
+    return ind_step(thread, &kernel, &window, IND_LIMIT_DEFAULT);
 }
 
 static void p4_to_p7(void)
@@ -75,7 +75,7 @@ static void p8_and_p9(void)
     ind_thread_start(&thread, 0, 0, 1, 1);
     while (run_word(&thread, p9[0]) == IND_GOES_ON)
         continue;
-    CHECK_EQ(thread.steps, IND_STEP_LIMIT);
+    CHECK_EQ(thread.steps, IND_LIMIT_DEFAULT);
     CHECK_EQ(thread.place, 0);
 }
 
@@ -154,25 +154,6 @@ static void failed_command_signals(void)
     stage_free(stage);
 }
 
-/* s5 counts down from 2047 in rounds of two steps; WFI is the last step. */
-static void wfi_as_step_4096(void)
-{
-    const uint32_t words[] = {
-        i_shape(INT_IMM, 0, 5, 0, 2047), /* step 1 */
-        i_shape(INT_IMM, 0, 5, 5, -1),   /* 2047 rounds: steps 2 to 4095 */
-        b_shape(1, 5, 0, -4),
-        WFI                              /* step 4096 */
-    };
-    const uint32_t later[] = {words[0], MEMBAR, words[1], words[2], WFI};
-    struct stage *stage = stage_new(0);
-
-    pack_one(stage, words, 4);
-    CHECK_EQ(serve(stage, head(0x20, 0, 0, 0), 2, 2, 0), 0);
-    pack_one(stage, later, 5);
-    CHECK_EQ(serve(stage, head(0x20, 0, 0, 0), 2, 2, 0), 14);
-    stage_free(stage);
-}
-
 /* The other tests use these by their names. */
 static void numbers_of_the_manual(void)
 {
@@ -187,7 +168,9 @@ static void numbers_of_the_manual(void)
     CHECK_EQ(IND_KERNELS_MOST, 16);
     CHECK_EQ(IND_CODE_MOST, 16384);
     CHECK_EQ(IND_SIDE_MOST, 64);
-    CHECK_EQ(IND_STEP_LIMIT, 4096);
+    CHECK_EQ(IND_LIMIT_LEAST, 1);
+    CHECK_EQ(IND_LIMIT_MOST, 65536);
+    CHECK_EQ(IND_LIMIT_DEFAULT, 16384);
     CHECK_EQ(IND_RINGS, 4);
     CHECK_EQ(IND_SLOTS, 64);
     CHECK_EQ(IND_INPUT_MOST, 61440);
@@ -203,13 +186,14 @@ int main(void)
     p10();
     p11();
     p12();
-    /* 0002930B as a shift, and a carry between lanes: P6 and P10 above. */
+    /* 0002930B as a shift, and a carry between lanes: P6 and P10 above. 14 for
+     * a WFI that is the limit's step: limits.c. */
     faulty_header_does_not_wait();
     failed_command_signals();
-    wfi_as_step_4096();
     test_commands();
     test_turns();
     test_calls();
+    test_limits();
     test_kernels();
     test_replay();
     test_image();

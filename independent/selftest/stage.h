@@ -91,6 +91,7 @@ void pack_one(struct stage *stage, const uint32_t *words, uint32_t count);
 void test_commands(void);
 void test_turns(void);
 void test_calls(void);
+void test_limits(void);
 void test_kernels(void);
 void test_replay(void);
 void test_image(void);

@@ -45,7 +45,7 @@ static void put_command(struct piece *ring, uint32_t which, uint32_t window)
 static void put_device(struct piece *image, uint32_t window)
 {
     const struct ind_frame frame = { window != 0, 0, STRIDE, 0 };
-    struct ind_device device = { .marker = 0 };
+    struct ind_device device = { .limit = IND_LIMIT_DEFAULT };
 
     for (int i = 0; i < IND_RINGS; i++) {
         device.rings[i].window_length = window;
@@ -103,9 +103,9 @@ static void compare(uint32_t empty)
     call_copy(wanted, before);
     before->nulls = 1;
     call_copy(nulled, before);
-    call_make(pointed, fv_fresh, fv_turn);
-    call_make(nulled, fv_fresh, fv_turn);
-    call_make(wanted, ind_fv_fresh, ind_fv_turn);
+    call_make(pointed, fv_fresh, fv_fresh_with, fv_turn);
+    call_make(nulled, fv_fresh, fv_fresh_with, fv_turn);
+    call_make(wanted, ind_fv_fresh, ind_fv_fresh_with, ind_fv_turn);
     calls++;
     accepted += call_answer(wanted) == IND_SERVED; /* of a making: made */
     int as_null = call_difference(pointed, nulled);
@@ -122,9 +122,11 @@ static void compare_all(void)
         start_turn(choice / 2 % COMMANDS, choice % 2 == 0 ? 0 : SOME);
         compare(choice / 2 / COMMANDS);
     }
-    for (uint32_t choice = 0; choice < 4; choice++) {
-        call_start(before, CALL_FRESH);
-        compare(choice / 2 << PIECE_DEVICE | choice % 2 << PIECE_WINDOWS);
+    for (uint32_t choice = 0; choice < 8; choice++) {
+        call_start(before, choice < 4 ? CALL_FRESH : CALL_FRESH_WITH);
+        if (choice >= 4)
+            put_word(before->pieces[PIECE_LIMIT].bytes, IND_LIMIT_MOST);
+        compare(choice / 2 % 2 << PIECE_DEVICE | choice % 2 << PIECE_WINDOWS);
     }
 }
 

@@ -20,7 +20,8 @@ enum {
     RING_BYTES = WORD * IND_IMAGE_RING_WORDS,
     HELD = WORD * IND_IMAGE_HELD,
     FRAME_BYTES = WORD * (IND_IMAGE_FORMAT + 1) - HELD,
-    MARKER = WORD * IND_IMAGE_MARKER
+    MARKER = WORD * IND_IMAGE_MARKER,
+    LIMIT = WORD * IND_IMAGE_LIMIT
 };
 
 /* A turn's pieces, after it and its image before it. */
@@ -114,6 +115,14 @@ static void err_unserved(struct turned *t)
     }
 }
 
+/* The limit forgotten by a served turn, or one outside brought inside. */
+static void err_limit(struct turned *t)
+{
+    if ((MUTANT == 23 && t->answer == IND_SERVED)
+        || (MUTANT == 24 && t->answer == IND_REFUSED_STATE))
+        ind_put(t->device + LIMIT, WORD, IND_LIMIT_DEFAULT);
+}
+
 uint32_t fv_fresh(uint8_t *device, size_t device_len, const uint8_t *windows,
                   size_t windows_len, uint64_t memory_len)
 {
@@ -131,7 +140,60 @@ uint32_t fv_fresh(uint8_t *device, size_t device_len, const uint8_t *windows,
                                    memory_len);
     if (MUTANT == 17 && answer == IND_REFUSED_MEMORY) /* image not written */
         memcpy(device, before, sizeof before);
+    if (MUTANT == 25 && answer == 0) /* where none is named */
+        ind_put(device + LIMIT, WORD, 4096);
     return answer;
+}
+
+/* Errors of a making with a limit. */
+static uint32_t err_limited(uint8_t *device, uint32_t limit, uint32_t answer)
+{
+    int outside = limit < IND_LIMIT_LEAST || limit > IND_LIMIT_MOST;
+
+    switch (MUTANT) {
+    case 26: /* 65,537 taken */
+    case 27: /* 0 taken */
+        if (answer == 0)
+            ind_put(device + LIMIT, WORD, limit);
+        break;
+    case 28: /* 102 before 101 */
+        return answer == IND_REFUSED_MEMORY && outside ? IND_REFUSED_STATE
+                                                       : answer;
+    case 29: /* the named limit in the empty device, with 101 and with 102 */
+        if (answer == IND_REFUSED_MEMORY)
+            ind_put(device + LIMIT, WORD, limit);
+        break;
+    case 30:
+        if (answer == IND_REFUSED_STATE)
+            ind_put(device + LIMIT, WORD, limit);
+        break;
+    case 31: /* the named limit not heeded */
+        if (answer == 0)
+            ind_put(device + LIMIT, WORD, IND_LIMIT_DEFAULT);
+        break;
+    default:
+        break;
+    }
+    return answer;
+}
+
+uint32_t fv_fresh_with(uint8_t *device, size_t device_len,
+                       const uint8_t *windows, size_t windows_len,
+                       uint64_t memory_len, uint32_t limit)
+{
+    uint32_t asked = limit;
+
+    if (MUTANT == 26 && limit == IND_LIMIT_MOST + 1)
+        asked = IND_LIMIT_MOST;
+    if (MUTANT == 27 && limit == 0)
+        asked = IND_LIMIT_LEAST;
+    if (MUTANT == 32 && windows_len != IND_WINDOWS_BYTES)
+        return IND_WRONG_WINDOWS; /* asked first */
+    if (MUTANT == 33 && windows == NULL)
+        return IND_WRONG_IMAGE; /* refused before a length is asked */
+    uint32_t answer = ind_fv_fresh_with(device, device_len, windows,
+                                        windows_len, memory_len, asked);
+    return err_limited(device, limit, answer);
 }
 
 uint32_t fv_turn(uint8_t *device, size_t device_len, uint8_t *memory,
@@ -159,6 +221,7 @@ uint32_t fv_turn(uint8_t *device, size_t device_len, uint8_t *memory,
                            ring0_len, ring1, ring1_len, ring2, ring2_len,
                            ring3, ring3_len, pack, pack_len, pipe, pipe_len,
                            report, report_len);
+    err_limit(&t);
     if (t.answer == IND_SERVED)
         err_served(&t);
     else if (t.answer < IND_WRONG_IMAGE)

@@ -1,5 +1,6 @@
-/* whole COUNT SEED: random whole calls on the device of an archive (fv_fresh
- * and fv_turn) and on the independent one; all they leave is compared. */
+/* whole COUNT SEED: random whole calls on the device of an archive (fv_fresh,
+ * fv_fresh_with and fv_turn) and on the independent one; all they leave is
+ * compared. */
 #include <inttypes.h>
 #include <stdio.h>
 
@@ -42,8 +43,8 @@ int main(int argc, char **argv)
         before->nulls = n % 2 == 1;
         call_copy(got, before);
         call_copy(wanted, before);
-        call_make(got, fv_fresh, fv_turn);
-        call_make(wanted, ind_fv_fresh, ind_fv_turn);
+        call_make(got, fv_fresh, fv_fresh_with, fv_turn);
+        call_make(wanted, ind_fv_fresh, ind_fv_fresh_with, ind_fv_turn);
         tally_call(before, wanted);
         share_call(&share, wanted);
         int piece = call_difference(got, wanted);

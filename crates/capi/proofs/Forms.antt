@@ -21,16 +21,14 @@ use Rattle.work.proofs.Performs.{performed-has}
 use Rattle.state.specs.declared.device.Window.{Window}
 use Rattle.state.specs.declared.device.Ring.{Ring}
 use Rattle.state.specs.declared.device.Device.{Device}
-use Rattle.state.specs.Device.{Shaped, SlotsFit, emptyWindow, freshDevice, ringOf, slotOf, withRing, withMarker}
-use Rattle.state.specs.Refusal.{memoryFits}
-use Rattle.device.specs.Fresh.{freshOf}
+use Rattle.state.specs.Device.{Shaped, SlotsFit, emptyWindow, defaultLimit, freshDevice, emptyDevice, ringOf, slotOf, withRing, withMarker}
 use Rattle.device.specs.Turn.{ringIn, unchanged, ringAfter, deviceAfter, finished, servedOf}
 use Rattle.state.proofs.Seeks.{next-below}
 use Rattle.device.proofs.Verdicts.{each-of-four}
 use Rattle.device.proofs.Turns.{turn-cases, picked-servable}
 use Rattle.command.proofs.Sizes.{whole-inside}
 use Rattle.device.proofs.Untaken.{served-ring, other-ring}
-use Rattle.device.proofs.Shapes.{emit-fits, after-shaped, fresh-shaped}
+use Rattle.device.proofs.Shapes.{emit-fits, after-limit, after-shaped, fresh-shaped, made-each}
 use Rattle.capi.specs.Image.{heldOf, baseOf, formatOf, ringWords, ringsWords, wordsOf, windowAt}
 use Rattle.capi.specs.Inverse.{OfBytes, Formed}
 use Rattle.capi.specs.Follows.{FreshForms, TurnForms}
@@ -52,12 +50,12 @@ frame-in : (r : Ring) → Fits (ringWords r) → FrameFits (r .frame)
 unfolding ringWords
 frame-in r h = record { held = h .at 3; base = h .at 4; stride = h .at 5; format = h .at 6 }
 
--- a device whose rings, slots and marker fit
+-- a device whose rings, slots, marker and limit fit
 module _ (d : Device) where
   pub formed : Shaped d → ((q : ℕ) → q < 4 → Fits (ringWords (ringOf d q))) → Fits (d .slots) → d .marker < 2 ^ 32
-      → Formed d
+      → d .limit < 2 ^ 32 → Formed d
   unfolding wordsOf ringsWords
-  formed shaped rings slots marker = record {
+  formed shaped rings slots marker limit = record {
     shaped = shaped;
     fit = fits-both (ringsWords d ++ d .slots)
         (fits-both (ringsWords d)
@@ -65,13 +63,17 @@ module _ (d : Device) where
         (fits-both (ringWords (ringOf d 0) ++ ringWords (ringOf d 1)) (fits-both (ringWords (ringOf d 0)) (rings 0 (lit< tt)) (rings 1 (lit< tt))) (rings 2 (lit< tt)))
         (rings 3 (lit< tt)))
         slots)
-        (fits-more marker fits-none) .at;
+        (fits-more marker (fits-more limit fits-none)) .at;
   }
 
   module _ (is : Formed d) where
     before-marker : Fits (ringsWords d ++ d .slots)
     unfolding wordsOf
-    before-marker = fits-left (ringsWords d ++ d .slots) (d .marker ∷ []) (record { at = is .fit })
+    before-marker = fits-left (ringsWords d ++ d .slots) (d .marker ∷ d .limit ∷ []) (record { at = is .fit })
+
+    limit-in : d .limit < 2 ^ 32
+    unfolding wordsOf
+    limit-in = fits-right (ringsWords d ++ d .slots) {ys = d .marker ∷ d .limit ∷ []} (record { at = is .fit }) .at 1
 
     slots-in : Fits (d .slots)
     slots-in = fits-right (ringsWords d) before-marker
@@ -138,6 +140,7 @@ module _ (d : Device) (q : ℕ) (c : Command) (p : Performed) (is : Formed d) (f
       formed (deviceAfter d q c p) (after-shaped d q c p (is .shaped)) ring-after
       (slots-row _ (emit-fits (emits c (p .outcome)) (withRing d q (ringAfter (ringOf d q) c (p .frame))) (c .rdst) (row-slots _ (slots-in d is))))
       (omega (arith, next-below q four))
+      (rw (after-limit d q c p) (limit-in d is))
 
 pub turn-forms : TurnForms
 unfolding servedOf finished unchanged ringAfter
@@ -156,24 +159,25 @@ WindowFits w = (w .start < 2 ^ 32) × (w .length < 2 ^ 32)
 fresh-ring : (w : Window) → WindowFits w → Fits (ringWords (record { window = w; cursor = 0; frame = Frame.Unset }))
 fresh-ring w h = ring-fits _ (h .0) (h .1) (omega arith) (record { held = omega arith; base = omega arith; stride = omega arith; format = omega arith })
 
-fresh-formed : (w0 w1 w2 w3 : Window) → WindowFits w0 → WindowFits w1 → WindowFits w2 → WindowFits w3 → Formed (freshDevice w0 w1 w2 w3)
+fresh-formed : (w0 w1 w2 w3 : Window) (limit : ℕ) → WindowFits w0 → WindowFits w1 → WindowFits w2 → WindowFits w3 → limit < 2 ^ 32
+    → Formed (freshDevice w0 w1 w2 w3 limit)
 unfolding freshDevice ringOf
-fresh-formed w0 w1 w2 w3 h0 h1 h2 h3 =
-    formed (freshDevice w0 w1 w2 w3) (fresh-shaped w0 w1 w2 w3)
-    (each-of-four (λ q. Fits (ringWords (ringOf (freshDevice w0 w1 w2 w3) q))) (fresh-ring w0 h0) (fresh-ring w1 h1) (fresh-ring w2 h2) (fresh-ring w3 h3))
-    (fits-zeros 64) (omega arith)
+fresh-formed w0 w1 w2 w3 limit h0 h1 h2 h3 h =
+    formed (freshDevice w0 w1 w2 w3 limit) (fresh-shaped w0 w1 w2 w3 limit)
+    (each-of-four (λ q. Fits (ringWords (ringOf (freshDevice w0 w1 w2 w3 limit) q))) (fresh-ring w0 h0) (fresh-ring w1 h1) (fresh-ring w2 h2) (fresh-ring w3 h3))
+    (fits-zeros 64) (omega arith) h
 
-pub fresh-forms : FreshForms
-unfolding freshOf windowAt
-fresh-forms windows memory bytes = go (memoryFits memory (windowAt windows 0) (windowAt windows 2) (windowAt windows 4) (windowAt windows 6)) refl
+empty-formed : Formed emptyDevice
+unfolding emptyDevice
+empty-formed = fresh-formed emptyWindow emptyWindow emptyWindow emptyWindow defaultLimit empty empty empty empty (omega arith)
   where
-    at : (k : ℕ) → WindowFits (windowAt windows k)
-    at k = (word-fits windows _ bytes, word-fits windows _ bytes)
-
     empty : WindowFits emptyWindow
     empty = (omega arith, omega arith)
 
-    go : (b : Bool) → memoryFits memory (windowAt windows 0) (windowAt windows 2) (windowAt windows 4) (windowAt windows 6) ≡ b
-        → Formed (freshOf memory (windowAt windows 0) (windowAt windows 2) (windowAt windows 4) (windowAt windows 6) .device)
-    go true e = rw e (fresh-formed _ _ _ _ (at 0) (at 2) (at 4) (at 6))
-    go false e = rw e (fresh-formed _ _ _ _ empty empty empty empty)
+pub fresh-forms : FreshForms
+unfolding windowAt
+fresh-forms windows memory limit bytes small =
+    made-each Formed memory _ _ _ _ limit empty-formed (fresh-formed _ _ _ _ limit (at 0) (at 2) (at 4) (at 6) small)
+  where
+    at : (k : ℕ) → WindowFits (windowAt windows k)
+    at k = (word-fits windows _ bytes, word-fits windows _ bytes)

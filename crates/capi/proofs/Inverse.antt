@@ -6,13 +6,13 @@ use Prim.Native.Nat.{ℕ, _+_}
 use native.Mathlib.Nat.{add-zero, zero-add}
 use native.Mathlib.Omega.{arith}
 use lib.ListN.{length, getD}
-use lib.Seq.{take-all, take-at, getD-at}
+use lib.Seq.{take-all, take-at, getD-append-add}
 use Rattle.command.specs.declared.frame.Frame.{Frame}
 use Rattle.command.specs.declared.frame.Frame.the-variants.{Unset, Held}
 use Rattle.command.specs.Frame.{strideOf}
 use Rattle.state.specs.declared.device.Ring.{Ring}
 use Rattle.state.specs.Device.{emptyWindow, freshRing, ringOf}
-use Rattle.capi.specs.Image.{wordIn, wordsIn, heldOf, baseOf, formatOf, ringWords, ringsWords, wordsOf, encode, frameOf, windowAt, ringAt, decode, imageLength, imageWords, markerAt, slotsAt}
+use Rattle.capi.specs.Image.{wordIn, wordsIn, heldOf, baseOf, formatOf, ringWords, ringsWords, wordsOf, encode, frameOf, windowAt, ringAt, decode, imageLength, imageWords, limitAt, markerAt, slotsAt}
 use Rattle.capi.specs.Inverse.{Normal, NormalFrame, held, unset, DecodeEncode, EncodeDecode}
 use Rattle.capi.proofs.Sizes.{words-length}
 use Rattle.capi.proofs.WordBytes.{word-in-bytes, words-in-bytes, words-in-append, bytes-of-words-in}
@@ -49,8 +49,11 @@ unfolding decode encode wordsOf ringsWords ringWords ringOf
 decode-encode d formed =
     let size = words-length d (formed .shaped .slots) in
     let row = words-in-bytes (wordsOf d) (formed .fit) in
-    let slots : wordsIn (encode d) slotsAt 64 ≡ d .slots = row slotsAt 64 (omega arith) ∙ take-at (d .slots) (d .marker ∷ []) 64 (formed .shaped .slots) in
-    let marker : wordIn (encode d) markerAt ≡ d .marker = word-in-bytes (wordsOf d) markerAt (omega arith) (formed .fit markerAt) ∙ getD-at (d .slots) (d .marker) [] 0 64 (formed .shaped .slots) in
+    let past-slots : (k : ℕ) → getD (d .slots ++ (d .marker ∷ d .limit ∷ [])) (64 + k) 0 ≡ getD (d .marker ∷ d .limit ∷ []) k 0 =
+    λ k. rw (formed .shaped .slots) at (getD-append-add (d .slots) (d .marker ∷ d .limit ∷ []) k 0) in
+    let slots : wordsIn (encode d) slotsAt 64 ≡ d .slots = row slotsAt 64 (omega arith) ∙ take-at (d .slots) (d .marker ∷ d .limit ∷ []) 64 (formed .shaped .slots) in
+    let marker : wordIn (encode d) markerAt ≡ d .marker = word-in-bytes (wordsOf d) markerAt (omega arith) (formed .fit markerAt) ∙ past-slots 0 in
+    let limit : wordIn (encode d) limitAt ≡ d .limit = word-in-bytes (wordsOf d) limitAt (omega arith) (formed .fit limitAt) ∙ past-slots 1 in
     rw (
       ring-back (encode d) 0 (ringOf d 0) (row 0 7 (omega arith)),
       ring-back (encode d) 7 (ringOf d 1) (row 7 7 (omega arith)),
@@ -58,6 +61,7 @@ decode-encode d formed =
       ring-back (encode d) 21 (ringOf d 3) (row 21 7 (omega arith)),
       slots,
       marker,
+      limit,
       four (freshRing emptyWindow) (d .rings) (formed .shaped .rings),
     )
 
@@ -77,9 +81,9 @@ ring-words-in image k normal = rw (add-zero k, frame-words normal)
 joined : (image : List ℕ) (k n : ℕ) {xs ys : List ℕ} → xs ≡ wordsIn image 0 k → ys ≡ wordsIn image k n → xs ++ ys ≡ wordsIn image 0 (k + n)
 joined image k n first second = rw (first, second) (rw (zero-add k) at (words-in-append image 0 k n))
 
-last-word : (image : List ℕ) → wordIn image markerAt ∷ [] ≡ wordsIn image markerAt 1
+last-words : (image : List ℕ) → wordIn image markerAt ∷ wordIn image limitAt ∷ [] ≡ wordsIn image markerAt 2
 unfolding wordsIn
-last-word image = refl
+last-words image = refl
 
 all-words : (image : List ℕ) → Normal image → wordsOf (decode image) ≡ wordsIn image 0 imageWords
 unfolding wordsOf ringsWords decode ringOf
@@ -88,7 +92,7 @@ all-words image normal =
     let r1 = ring-words-in image 7 (normal .frames 1 (omega arith)) in
     let r2 = ring-words-in image 14 (normal .frames 2 (omega arith)) in
     let r3 = ring-words-in image 21 (normal .frames 3 (omega arith)) in
-    joined image markerAt 1 (joined image slotsAt 64 (joined image 21 7 (joined image 14 7 (joined image 7 7 r0 r1) r2) r3) refl) (last-word image)
+    joined image markerAt 2 (joined image slotsAt 64 (joined image 21 7 (joined image 14 7 (joined image 7 7 r0 r1) r2) r3) refl) (last-words image)
 
 pub encode-decode : EncodeDecode
 unfolding encode

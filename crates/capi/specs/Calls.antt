@@ -1,4 +1,4 @@
--- What the two calls leave in the bytes that they are lent, and what they answer.
+-- What the calls leave in the bytes that they are lent, and what they answer.
 use Prim.Native.Nat.{ℕ, _*_}
 use mathlib.Core.Path.{_≡_}
 use mathlib.Core.Bool.{Bool, cond}
@@ -8,7 +8,8 @@ use lib.ListN.{length}
 use Rattle.state.specs.declared.device.Device.{Device}
 use Rattle.device.specs.declared.fresh.Fresh.{Fresh}
 use Rattle.device.specs.declared.turn.Answer.{Answer}
-use Rattle.device.specs.Fresh.{freshOf}
+use Rattle.state.specs.Device.{defaultLimit}
+use Rattle.device.specs.Fresh.{freshWith}
 use Rattle.device.specs.Answer.{answerNumber, makingNumber}
 use Rattle.device.specs.Turn.{Call, TurnEnd, turnOf}
 use Rattle.capi.specs.Image.{imageLength, encode, decode, windowAt}
@@ -28,18 +29,23 @@ pub record Freshens (i : List ℕ) (r : ℕ) (f : Freshened) : Type 0 where
 abbrev pub windowsLength : ℕ
 windowsLength = 4 * 8
 
--- a fresh device of four windows
-abbrev pub freshFor : List ℕ → ℕ → Fresh
-freshFor windows memory = freshOf memory (windowAt windows 0) (windowAt windows 2) (windowAt windows 4) (windowAt windows 6)
+-- a fresh device of four windows, with a limit named
+abbrev pub freshFor : List ℕ → ℕ → ℕ → Fresh
+freshFor windows memory limit =
+    freshWith memory (windowAt windows 0) (windowAt windows 2) (windowAt windows 4) (windowAt windows 6) limit
 
--- the image of a fresh device; 201 for an image of the wrong length, else 203 for windows of the wrong length
-unfoldable pub freshCall : List ℕ → List ℕ → ℕ → Freshened
-freshCall image windows memory =
+-- the image of a fresh device, with a limit named; 201 for an image of the wrong length, else 203 for windows of the wrong length
+unfoldable pub freshWithCall : List ℕ → List ℕ → ℕ → ℕ → Freshened
+freshWithCall image windows memory limit =
     cond (eqb (length image) imageLength)
     (cond (eqb (length windows) windowsLength)
-    (record { image = encode (freshFor windows memory .device); answer = makingNumber (freshFor windows memory .answer) })
+    (record { image = encode (freshFor windows memory limit .device); answer = makingNumber (freshFor windows memory limit .answer) })
     (record { image = image; answer = 203 }))
     (record { image = image; answer = 201 })
+
+-- with none named
+abbrev pub freshCall : List ℕ → List ℕ → ℕ → Freshened
+freshCall image windows memory = freshWithCall image windows memory defaultLimit
 
 -- an image, memory, pipe and report, and an answer
 pub record Called : Type 0 where

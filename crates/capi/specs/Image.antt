@@ -1,4 +1,4 @@
--- The image of a device: little-endian words. Each ring has seven, then come the 64 slots and the marker.
+-- The image of a device: little-endian words. Each ring has seven, then come the 64 slots, the marker and the limit.
 use mathlib.Core.Bool.{cond}
 use Prim.Native.Nat.{ℕ, zero, suc, _+_, _*_}
 use mathlib.Core.List.{List, [], _∷_, _++_}
@@ -17,15 +17,18 @@ use Rattle.state.specs.Device.{deviceOf, ringOf}
 abbrev pub ringSize : ℕ
 ringSize = 7
 
--- the words where the slots and the marker stand, and how many words and bytes there are
+-- the words where the slots, the marker and the limit stand, and how many words and bytes there are
 abbrev pub slotsAt : ℕ
 slotsAt = 4 * ringSize
 
 abbrev pub markerAt : ℕ
 markerAt = slotsAt + 64
 
+abbrev pub limitAt : ℕ
+limitAt = markerAt + 1
+
 abbrev pub imageWords : ℕ
-imageWords = markerAt + 1
+imageWords = limitAt + 1
 
 abbrev pub imageLength : ℕ
 imageLength = 4 * imageWords
@@ -70,7 +73,7 @@ ringsWords d = ringWords (ringOf d 0) ++ ringWords (ringOf d 1) ++ ringWords (ri
 
 -- a device's words
 unfoldable pub wordsOf : Device → List ℕ
-wordsOf d = ringsWords d ++ d .slots ++ (d .marker ∷ [])
+wordsOf d = ringsWords d ++ d .slots ++ (d .marker ∷ d .limit ∷ [])
 
 -- a device's image
 unfoldable pub encode : Device → List ℕ
@@ -96,3 +99,4 @@ ringAt image k = record {
 unfoldable pub decode : List ℕ → Device
 decode image =
     deviceOf (ringAt image 0 ∷ ringAt image 7 ∷ ringAt image 14 ∷ ringAt image 21 ∷ []) (wordsIn image slotsAt 64) (wordIn image markerAt)
+    (wordIn image limitAt)

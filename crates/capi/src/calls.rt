@@ -3,7 +3,7 @@ ghost use mathlib.Core.Path.{_≡_};
 ghost use lib.ListN.{length};
 ghost use Rattle.device.specs.Turn.{callOf};
 ghost use Rattle.capi.specs.Image.{imageLength};
-ghost use Rattle.capi.specs.Calls.{isServed, imageAfter, freshCall, Freshens, turnCall, Leaves};
+ghost use Rattle.capi.specs.Calls.{isServed, imageAfter, freshWithCall, freshCall, Freshens, turnCall, Leaves};
 use crate::image::IMAGE_BYTES;
 use crate::image::device_in;
 use crate::image::put_device;
@@ -11,10 +11,11 @@ use crate::lent::put_words;
 use crate::lent::window_at;
 use crate::report::REPORT_BYTES;
 use crate::report::report_words;
-use device::fresh::make;
+use device::fresh::make_with;
 use device::fresh::making_number;
 use device::turn::Answer;
 use device::turn::turn;
+use state::device::DEFAULT_LIMIT;
 use state::device::Device;
 
 // An image, a report or windows of the wrong length: the call changes nothing.
@@ -26,9 +27,9 @@ pub const WRONG_WINDOWS: u32 = 203;
 
 pub const WINDOWS_BYTES: usize = 4 * 8;
 
-// `memory` is the memory's length.
-pub fn fresh_call(image: &mut [u8], windows: &[u8], memory: usize) -> u32
-    ensures { λ r. ⌜ Freshens (now (image .exit)) r (freshCall (now (image .entry)) (now (windows .entry)) memory) ⌝ }
+// With a limit named. `memory` is the memory's length.
+pub fn fresh_with_call(image: &mut [u8], windows: &[u8], memory: usize, limit: u32) -> u32
+    ensures { λ r. ⌜ Freshens (now (image .exit)) r (freshWithCall (now (image .entry)) (now (windows .entry)) memory limit) ⌝ }
 {
     if image.len() != IMAGE_BYTES {
         return WRONG_IMAGE;
@@ -36,17 +37,25 @@ pub fn fresh_call(image: &mut [u8], windows: &[u8], memory: usize) -> u32
     if windows.len() != WINDOWS_BYTES {
         return WRONG_WINDOWS;
     }
-    let fresh = make(
+    let fresh = make_with(
         memory,
         window_at(windows, 0),
         window_at(windows, 2),
         window_at(windows, 4),
         window_at(windows, 6),
+        limit,
     );
     let device = fresh.device;
     let answer = fresh.answer;
     put_device(image, device);
     making_number(answer)
+}
+
+// With none named.
+pub fn fresh_call(image: &mut [u8], windows: &[u8], memory: usize) -> u32
+    ensures { λ r. ⌜ Freshens (now (image .exit)) r (freshCall (now (image .entry)) (now (windows .entry)) memory) ⌝ }
+{
+    fresh_with_call(image, windows, memory, DEFAULT_LIMIT)
 }
 
 fn is_served(answer: Answer) -> bool

@@ -15,7 +15,7 @@ use state::device::Ring;
 // How many words a ring has.
 const RING_WORDS: usize = 7;
 
-// The words where rings 1 to 3 stand, then the slots and the marker.
+// The words where rings 1 to 3 stand, then the slots, the marker and the limit.
 const RING_1_AT: usize = RING_WORDS;
 
 const RING_2_AT: usize = 2 * RING_WORDS;
@@ -26,7 +26,9 @@ const SLOTS_AT: usize = 4 * RING_WORDS;
 
 const MARKER_AT: usize = SLOTS_AT + 64;
 
-pub const IMAGE_BYTES: usize = 4 * (MARKER_AT + 1);
+const LIMIT_AT: usize = MARKER_AT + 1;
+
+pub const IMAGE_BYTES: usize = 4 * (LIMIT_AT + 1);
 
 fn held_of(frame: Frame) -> u32
     ensures { λ r. ⌜ r ≡ heldOf frame ⌝ }
@@ -108,8 +110,8 @@ pub fn put_device(image: &mut [u8], d: Device)
     put_rings(image, d);
     let slots = d.slots;
     put_words(image, SLOTS_AT, &slots);
-    let marker = [d.marker];
-    put_words(image, MARKER_AT, &marker);
+    let marker_and_limit = [d.marker, d.limit];
+    put_words(image, MARKER_AT, &marker_and_limit);
 }
 
 fn frame_of(held: u32, base: u32, stride: u32, format: u32) -> Frame
@@ -163,5 +165,8 @@ pub fn device_in(image: &[u8]) -> Device
         ring_at(image, RING_2_AT),
         ring_at(image, RING_3_AT),
     ];
-    Device::of(rings, slots_of(image), word_in(image, MARKER_AT))
+    let slots = slots_of(image);
+    let marker = word_in(image, MARKER_AT);
+    let limit = word_in(image, LIMIT_AT);
+    Device::of(rings, slots, marker, limit)
 }

@@ -1,6 +1,6 @@
 // The device for programs in C: its state is an image of bytes that the caller keeps.
 ghost use Rattle.device.specs.Turn.{callOf};
-ghost use Rattle.capi.specs.Calls.{freshCall, Freshens, turnCall, Leaves};
+ghost use Rattle.capi.specs.Calls.{freshCall, freshWithCall, Freshens, turnCall, Leaves};
 
 pub mod by_type;
 pub mod calls;
@@ -9,6 +9,7 @@ pub mod lent;
 pub mod report;
 
 use crate::calls::fresh_call;
+use crate::calls::fresh_with_call;
 use crate::calls::turn_call;
 
 // `memory` is the memory's length.
@@ -17,6 +18,14 @@ pub extern "C" fn fv_fresh(device: &mut [u8], windows: &[u8], memory: u64) -> u3
     ensures { λ r. ⌜ Freshens (now (device .exit)) r (freshCall (now (device .entry)) (now (windows .entry)) memory) ⌝ }
 {
     fresh_call(device, windows, memory as usize)
+}
+
+// With a limit named.
+#[no_mangle]
+pub extern "C" fn fv_fresh_with(device: &mut [u8], windows: &[u8], memory: u64, limit: u32) -> u32
+    ensures { λ r. ⌜ Freshens (now (device .exit)) r (freshWithCall (now (device .entry)) (now (windows .entry)) memory limit) ⌝ }
+{
+    fresh_with_call(device, windows, memory as usize, limit)
 }
 
 #[no_mangle]

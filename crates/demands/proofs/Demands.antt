@@ -7,7 +7,7 @@ use Rattle.demands.specs.Bounded.{TurnsBounded, IdleInTime, FreshIdleInT
 use Rattle.demands.specs.Idle.{IdleIsDone}
 use Rattle.demands.specs.EachStep.{EachStep}
 use Rattle.demands.specs.OneAnswer.{OneAnswer}
-use Rattle.demands.specs.Table.{Table}
+use Rattle.demands.specs.Table.{Table, LeastLimit}
 use Rattle.demands.proofs.FourTurns as four
 use Rattle.demands.proofs.Keeps as keeps
 use Rattle.demands.proofs.Sound as sound
@@ -76,3 +76,7 @@ one-answer = one.one-answer
 -- the examples worked by hand, P1 to P12
 pub table : Table
 table = worked.table
+
+-- and the least limit beside them
+pub least-limit : LeastLimit
+least-limit = worked.least-limit

@@ -18,19 +18,20 @@ use Rattle.kernel.specs.declared.dispatch.Ran.{Ran}
 use Rattle.kernel.specs.declared.dispatch.Ran.the-variants.{Done, Stopped as StoppedFor}
 use Rattle.kernel.specs.Thread.{started}
 use Rattle.kernel.specs.Step.{stops, branched, afterStore, applied, executed}
+use Rattle.kernel.specs.Run.{running, stepsOf}
 use Rattle.kernel.specs.Dispatch.{ifDone, threadMore, dispatchOf}
 use Rattle.kernel.proofs.Runs.{ended-rests, stopped-rests, no-step, one-step-more}
-use Rattle.kernel.proofs.Steps.{at-the-limit, off-the-end, instruction-done}
+use Rattle.kernel.proofs.Steps.{step-counts, at-the-limit, off-the-end, instruction-done}
 use Rattle.kernel.proofs.StepByStep.{more-at-rest, one-more, run-is-steps}
 use Rattle.kernel.proofs.Dispatches.{no-thread, one-thread-more}
-use Rattle.kernel.proofs.StepLimit.{running-at-the-limit, out-of-steps, wfi-at-the-limit}
+use Rattle.kernel.proofs.StepLimit.{running-took, running-at-the-limit, out-of-steps, wfi-at-the-limit}
 use Rattle.kernel.proofs.Threads.{starts-fresh, thread-number, one-more-thread}
 use Rattle.command.specs.Outcome.{outcomeNumber}
 use Rattle.work.specs.Work.{leaves, ranOutcome, dispatchedBy, afterDispatch}
 use Rattle.work.proofs.Works.{work-dispatch}
 use Rattle.work.proofs.Performs.{performed-work}
 use Rattle.state.specs.declared.device.Device.{Device}
-use Rattle.state.specs.Device.{ringOf, slotOf, limitOf}
+use Rattle.state.specs.Device.{ringOf, slotOf}
 use Rattle.device.specs.Answer.{valuesOf}
 use Rattle.device.specs.Turn.{Call, servedOf, ringIn, reportOf}
 use Rattle.demands.specs.Calls.{headIn, numberIn, valuesIn, ringServed}
@@ -45,8 +46,8 @@ dispatch-work : (d : Device) (call : Call) (q : ℕ) → Dispatches d call q
 unfolding dispatchedBy dispatchOf
 dispatch-work d call q is =
     let c = headIn d call q in
-    performed-work c (isFull (slotOf d (c .rdst))) (ringIn call q) (windowIn d call q) (ringOf d q .frame) (call .pack) (call .pipe) (limitOf d) (is .no-fault)
-    ∙ work-dispatch c (ringIn call q) (windowIn d call q) (ringOf d q .frame) (call .pack) (call .pipe) (limitOf d) (is .opcode)
+    performed-work c (isFull (slotOf d (c .rdst))) (ringIn call q) (windowIn d call q) (ringOf d q .frame) (call .pack) (call .pipe) (d .limit) (is .no-fault)
+    ∙ work-dispatch c (ringIn call q) (windowIn d call q) (ringOf d q .frame) (call .pack) (call .pipe) (d .limit) (is .opcode)
 
 dispatch-served : (d : Device) (call : Call) → numberIn d call ≡ 0 → Dispatches d call (ringServed d call)
     → Leaves d call (threadsIn d call (ringServed d call))
@@ -84,6 +85,7 @@ step-by-rule : (limit : ℕ) (pack : List ℕ) (kernel : Kernel) (t : Thread) (w
 unfolding executed decoded applied branched afterStore storeOf storeQuadOf effectOf loadedEffect loadedQuadEffect loadOf loadQuadOf ifInside stops
 step-by-rule limit pack kernel t window = record {
   at-the-limit = at-the-limit limit pack kernel t window;
+  only-at-the-limit = λ e. (rw e at (step-counts limit pack kernel t window)) .1 refl;
   off-the-end = off-the-end limit pack kernel t window;
   not-listed = λ below on e. instruction-done limit pack kernel t window below on ∙ rw e;
   instruction = instruction-done limit pack kernel t window;
@@ -98,6 +100,7 @@ step-by-rule limit pack kernel t window = record {
 -- a thread at its start is tied to the limit
 limit-tied : (limit : ℕ) (pack : List ℕ) (kernel : Kernel) (g j threads groups : ℕ) (window : List ℕ)
     → LimitTied limit pack kernel (started g j threads groups) window
+unfolding running
 limit-tied limit pack kernel g j threads groups window =
     let t = started g j threads groups in
     let fresh = starts-fresh g j threads groups in
@@ -105,6 +108,12 @@ limit-tied limit pack kernel g j threads groups window =
       given = out-of-steps limit pack kernel t window fresh;
       left = running-at-the-limit limit pack kernel t window fresh;
       wfi = wfi-at-the-limit limit pack kernel t window fresh;
+      last = λ n t′ t″ window′ window″ is e on done.
+          let took : t′ .steps ≡ n = rw e at (running-took limit pack kernel t window fresh n (rw e)) in
+          let step = instruction-done limit pack kernel t′ window′ (omega arith) on in
+          let here : stepsOf limit limit pack kernel t window ≡ running t″ window″ =
+          ap (λ k. stepsOf k limit pack kernel t window) (sym is) ∙ one-step-more limit pack kernel t window n t′ window′ e ∙ step ∙ done in
+          running-at-the-limit limit pack kernel t window fresh (rw here) ∙ rw here;
     }
 
 -- the number 14 is that of a dispatch out of steps
@@ -125,7 +134,7 @@ dispatch-fourteen d call served is =
     let q = ringServed d call in
     let c = headIn d call q in
     let number = fourteen-is (threadsIn d call q .ran) in
-    let first = first-out-of-steps (limitOf d) (call .pack) (kernelIn d call q) (c .arg0) (c .arg1) (windowIn d call q) in
+    let first = first-out-of-steps (d .limit) (call .pack) (kernelIn d call q) (c .arg0) (c .arg1) (windowIn d call q) in
     let same = dispatch-served d call served is .outcome in
     (λ n. first .0 (number .0 (sym same ∙ n)), λ f. same ∙ number .1 (first .1 f))
 
@@ -133,10 +142,10 @@ pub each-step : EachStep
 unfolding EachStep ranOutcome
 each-step d call = record {
   served = dispatch-served d call;
-  threads = threads-in-order (limitOf d) (call .pack);
-  steps = steps-in-order (limitOf d) (call .pack);
-  step = step-by-rule (limitOf d) (call .pack);
-  limits = λ served is g j g-is j-is. limit-tied (limitOf d) (call .pack) _ g j _ _;
+  threads = threads-in-order (d .limit) (call .pack);
+  steps = steps-in-order (d .limit) (call .pack);
+  step = step-by-rule (d .limit) (call .pack);
+  limits = λ served is g j g-is j-is. limit-tied (d .limit) (call .pack) _ g j _ _;
   fourteen = dispatch-fourteen d call;
   numbers = (refl, refl, refl, refl);
 }

@@ -190,18 +190,18 @@ zeros (suc k) zero = refl
 zeros (suc k) (suc n) = zeros k n
 
 -- a fresh device has taken nothing
-fresh-took : (R : ℕ → List ℕ) (w0 w1 w2 w3 : Window) → Took R (freshDevice w0 w1 w2 w3) (λ q. 0)
+fresh-took : (R : ℕ → List ℕ) (w0 w1 w2 w3 : Window) (limit : ℕ) → Took R (freshDevice w0 w1 w2 w3 limit) (λ q. 0)
 unfolding freshDevice slotOf ringOf placeOf emitsIn sumOf
-fresh-took R w0 w1 w2 w3 = record {
-  shaped = fresh-shaped w0 w1 w2 w3;
-  cursors = each-of-four (λ q. ringOf (freshDevice w0 w1 w2 w3) q .cursor ≡ 0) refl refl refl refl;
+fresh-took R w0 w1 w2 w3 limit = record {
+  shaped = fresh-shaped w0 w1 w2 w3 limit;
+  cursors = each-of-four (λ q. ringOf (freshDevice w0 w1 w2 w3 limit) q .cursor ≡ 0) refl refl refl refl;
   slots = zeros 64;
 }
 
 pub idle-is-done : IdleIsDone
 unfolding IdleIsDone
-idle-is-done w0 w1 w2 w3 R calls last each lends idle n order q =
-    let ran = run-took R calls (freshDevice w0 w1 w2 w3) (λ q. 0) (fresh-took R w0 w1 w2 w3) each in
-    let unready = idle-unready R (lastOf (freshDevice w0 w1 w2 w3) calls) last (idle-answer _ idle) in
+idle-is-done w0 w1 w2 w3 limit R calls last each lends idle n order q =
+    let ran = run-took R calls (freshDevice w0 w1 w2 w3 limit) (λ q. 0) (fresh-took R w0 w1 w2 w3 limit) each in
+    let unready = idle-unready R (lastOf (freshDevice w0 w1 w2 w3 limit) calls) last (idle-answer _ idle) in
     let le = behind R _ (ran .0) (ran .1) (λ p four ready. unready p four (rw (lends p four) ready)) order q in
     omega (arith, le, ran .2 q)

@@ -1,8 +1,10 @@
 -- What a turn leaves as it was.
 -- Assumes nothing.
 use mathlib.Core.Path.{_≡_, refl, sym, ap, subst, _∙_}
-use Prim.Native.Nat.{ℕ, _+_, _≤_}
+use mathlib.Core.Bool.{true}
+use Prim.Native.Nat.{ℕ, zero, suc, _+_, _≤_}
 use native.Mathlib.Omega.{arith}
+use lib.Dec.{lit≤}
 use lib.ListN.{length, getD}
 use Rattle.memory.proofs.Window.{window-length, put-back-window, put-back-length, put-back-outside}
 use Rattle.command.specs.Outcome.{outcomeNumber}
@@ -10,12 +12,15 @@ use Rattle.command.specs.Report.{wordsRead}
 use Rattle.work.proofs.Reports as work
 use Rattle.state.specs.declared.device.Device.{Device}
 use Rattle.device.specs.declared.turn.Report.{Report}
-use Rattle.state.specs.Device.{ringOf}
+use Rattle.state.specs.Device.{emptyWindow, freshDevice, emptyDevice, defaultLimit, ringOf}
+use Rattle.state.specs.Refusal.{limitFits}
+use Rattle.state.proofs.Limits.{limit-fits, limit-unfit}
 use Rattle.device.specs.Answer.{answerNumber, valuesOf}
-use Rattle.device.specs.Fresh.{freshOf}
+use Rattle.device.specs.Fresh.{notMade, freshWith}
 use Rattle.device.specs.Turn.{Call, unchanged, reportOf, finished, servedOf, turnOf}
-use Rattle.demands.specs.Calls.{headIn, numberIn, valuesIn}
+use Rattle.demands.specs.Calls.{headIn, leftBy, numberIn, valuesIn}
 use Rattle.demands.specs.Keeps.{Same, SameBytes, OutsideOf, PipeKept, Keeps, TurnKeeps, FreshMakes}
+use Rattle.device.proofs.Shapes.{after-limit}
 use Rattle.device.proofs.Turns.{servedIn, turn-cases, picked-servable}
 use Rattle.demands.proofs.Turns.{workIn, served-as}
 use Rattle.demands.proofs.Works.{window-stays, pipe-stays}
@@ -60,6 +65,12 @@ module _ (d : Device) (call : Call) where
   unfolding servedOf
   served-pipe q = pipe-stays _ _ _ _ _ _ _ _
 
+  left-limit : leftBy d call .limit ≡ d .limit
+  unfolding unchanged servedOf finished
+  left-limit =
+      turn-cases d call (λ a. a .turned .device .limit ≡ d .limit) (λ why v. refl) (λ sound p. refl)
+      (λ q sound p. after-limit d q (headIn d call q) (workIn d call q .performed))
+
   pub keeps : Keeps d call
   unfolding unchanged valuesOf reportOf
   keeps = record {
@@ -82,15 +93,37 @@ module _ (d : Device) (call : Call) where
         let s = served-as d call number in
         let kept : Report → Type 0 = λ r. PipeKept (r .words) (call .pipe) (servedIn d call (s .report .ring) .pipe) in
         rw (s .values, s .was .after) (subst kept (s .was .told) (served-pipe (s .report .ring)));
+    limit = left-limit;
   }
 
 pub turn-keeps : TurnKeeps
 unfolding TurnKeeps
 turn-keeps d call = keeps d call
 
+-- the limit of a device that names none fits
+by-default : limitFits defaultLimit ≡ true
+by-default = limit-fits defaultLimit (lit≤ tt) (lit≤ tt)
+
+-- every window of the empty device is empty; past the fourth ring there is none
+empty-windows : (q : ℕ) → ringOf emptyDevice q .window ≡ emptyWindow
+unfolding emptyDevice freshDevice ringOf
+empty-windows zero = refl
+empty-windows (suc zero) = refl
+empty-windows (suc (suc zero)) = refl
+empty-windows (suc (suc (suc zero))) = refl
+empty-windows (suc (suc (suc (suc q)))) = refl
+
 pub fresh-makes : FreshMakes
-unfolding FreshMakes freshOf
-fresh-makes memory w0 w1 w2 w3 = record {
-  made = λ e. record { device = rw e; answer = rw e };
-  refused = λ e. record { device = rw e; answer = rw e };
+unfolding freshWith notMade emptyDevice freshDevice ringOf
+fresh-makes = record {
+  named = λ memory w0 w1 w2 w3 limit. record {
+    made = λ fits low high. record { device = rw (fits, limit-fits limit low high); answer = rw (fits, limit-fits limit low high) };
+    refused-101 = λ unfit. record { device = rw unfit; answer = rw unfit };
+    refused-102 = λ fits outside. record { device = rw (fits, limit-unfit limit outside); answer = rw (fits, limit-unfit limit outside) };
+  };
+  unnamed = λ memory w0 w1 w2 w3. record {
+    made = λ fits. record { device = rw (fits, by-default); answer = rw (fits, by-default) };
+    refused = λ unfit. record { device = rw unfit; answer = rw unfit };
+  };
+  empty = record { windows = empty-windows; limit = refl };
 }

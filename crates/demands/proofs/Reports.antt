@@ -26,7 +26,7 @@ use Rattle.state.specs.Ready.{readyAt, pickOf}
 use Rattle.device.specs.Turn.{Call, fenceOf, ringAfter, deviceAfter, finished, servedOf, ringIn, reportOf}
 use Rattle.device.proofs.Verdicts.{found}
 use Rattle.device.proofs.Untaken.{served-ring, other-ring}
-use Rattle.device.proofs.Shapes.{after-shaped}
+use Rattle.device.proofs.Shapes.{after-limit, after-shaped}
 use Rattle.demands.specs.Calls.{headIn, leftBy}
 use Rattle.demands.specs.Reports.{Signals, Interrupts, Reads, SetsFrame, Reported, Serving, TurnReports}
 use Rattle.device.proofs.Turns.{call-steady}
@@ -120,6 +120,7 @@ module _ (d : Device) (q : ℕ) (c : Command) (p : Performed) (shaped : Shaped d
     frame = λ not. ap (λ r. r .frame) moved ∙ kept not;
     other-rings = other-ring d q c p;
     marker = after-marker d q c p;
+    limit = after-limit d q c p;
   }
 
 -- the values of a served turn's report

@@ -1,8 +1,9 @@
 -- A device stays sound, so a call on its own memory is refused only for what it lends.
 -- Assumes nothing.
 use mathlib.Core.Path.{_≡_, refl, sym, ap, _∙_}
-use mathlib.Core.Bool.{Bool, true, false, cond}
+use mathlib.Core.Bool.{Bool, true, false, _&&_, cond}
 use mathlib.Core.List.{[], _∷_}
+use mathlib.Core.Logic.{_⊎_}
 use Prim.Native.Nat.{ℕ, _+_, _≤_, _<_}
 use native.Mathlib.Omega.{arith}
 use lib.Dec.{leb, lit≤, lit<}
@@ -11,7 +12,7 @@ use borrow.Author.Tests.{le-leb, lt-leb}
 use Rattle.memory.proofs.Window.{window-length}
 use Rattle.command.specs.Outcome.{isDone}
 use Rattle.command.specs.Frame.{heldFault}
-use Rattle.words.proofs.Choices.{both-right}
+use Rattle.words.proofs.Choices.{both-left, both-right}
 use Rattle.work.proofs.Kept.{performed-frame}
 use Rattle.state.specs.declared.device.Window.{Window}
 use Rattle.state.specs.declared.device.Device.{Device}
@@ -19,10 +20,11 @@ use Rattle.state.specs.declared.refusal.Refusal.{Refusal}
 use Rattle.state.specs.declared.refusal.Verdict.{Verdict}
 use Rattle.state.specs.declared.refusal.Verdict.the-variants.{Sound, Refused}
 use Rattle.state.specs.declared.ready.Picked.the-variants.{Ring as RingOf}
-use Rattle.state.specs.Device.{emptyWindow, freshDevice, ringOf, slotOf, limitOf}
+use Rattle.state.specs.Device.{emptyWindow, freshDevice, emptyDevice, defaultLimit, ringOf, slotOf}
 use Rattle.device.specs.Answer.{answerNumber}
-use Rattle.state.specs.Refusal.{refusalNumber, windowFits, memoryFits, windowsFit, ringSound, stateSound, verdictOf}
-use Rattle.device.specs.Fresh.{freshOf}
+use Rattle.state.specs.Refusal.{refusalNumber, windowFits, memoryFits, windowsFit, ringSound, limitFits, stateSound, verdictOf}
+use Rattle.state.proofs.Limits.{limit-unfit}
+use Rattle.device.specs.Fresh.{notMade, freshWith}
 use Rattle.device.specs.Turn.{Call, unchanged, ringAfter, reportOf, finished, servedOf, verdictOn, ringIn, pickIn}
 use Rattle.state.proofs.Seeks.{next-below}
 use Rattle.device.proofs.Verdicts.{all-four}
@@ -30,6 +32,7 @@ use Rattle.command.proofs.Sizes.{whole-inside}
 use Rattle.demands.specs.Calls.{headIn, answerOf, leftBy, none, more}
 use Rattle.demands.specs.EachStep.{windowIn}
 use Rattle.demands.specs.Sound.{StaysSound, TurnStaysSound, RefusedForLent, SoundRefusals, FreshMakesSound, CallsStaySound, FreshStaysSound, MakesSound, lentRingsFit}
+use Rattle.device.proofs.Shapes.{after-limit}
 use Rattle.device.proofs.Turns.{servedIn, turn-cases, picked-servable, turn-refused}
 use Rattle.demands.proofs.Turns.{workIn}
 use Rattle.demands.proofs.Devices.{after-marker, after-ring, after-windows}
@@ -39,18 +42,27 @@ use Rattle.pack.specs.Kernels.{soundPack}
 -- a sound state has four sound rings
 rings-sound : (d : Device) → stateSound d ≡ true → (q : ℕ) → q < 4 → ringSound (ringOf d q) ≡ true
 unfolding stateSound
-rings-sound d sound = all-four (λ p. ringSound (ringOf d p)) (both-right (leb (d .marker) 3) _ sound)
+rings-sound d sound = all-four (λ p. ringSound (ringOf d p)) (both-right (leb (d .marker) 3 && limitFits (d .limit)) _ sound)
 
--- and a state of four sound rings, its marker among them, is sound
-sound-if : (d : Device) → d .marker < 4 → ((q : ℕ) → q < 4 → ringSound (ringOf d q) ≡ true) → stateSound d ≡ true
+-- and a limit that fits
+limit-sound : (d : Device) → stateSound d ≡ true → limitFits (d .limit) ≡ true
 unfolding stateSound
-sound-if d marker rings =
-    rw (le-leb (d .marker) 3 (omega arith), rings 0 (lit< tt), rings 1 (lit< tt), rings 2 (lit< tt), rings 3 (lit< tt))
+limit-sound d sound = both-right (leb (d .marker) 3) _ (both-left (leb (d .marker) 3 && limitFits (d .limit)) _ sound)
+
+-- a state of four sound rings, its marker among them, under a limit that fits is sound
+sound-if : (d : Device) → d .marker < 4 → limitFits (d .limit) ≡ true → ((q : ℕ) → q < 4 → ringSound (ringOf d q) ≡ true) → stateSound d ≡ true
+unfolding stateSound
+sound-if d marker limit rings =
+    rw (le-leb (d .marker) 3 (omega arith), limit, rings 0 (lit< tt), rings 1 (lit< tt), rings 2 (lit< tt), rings 3 (lit< tt))
 
 -- what holds of the numbers that a verdict may give
 abbrev Numbers : (ℕ → Type 0) → Verdict → Type 0
 Numbers P Sound = (n : ℕ) → n ≤ 1 → P n
 Numbers P (Refused why) = P (refusalNumber why)
+
+both-false : (a : Bool) → (a && false) ≡ false
+both-false true = refl
+both-false false = refl
 
 module _ (d : Device) (call : Call) where
   -- the ring that a turn served is sound: its cursor ends in its bytes, and its frame is one that SET_FB did not refuse
@@ -67,7 +79,7 @@ module _ (d : Device) (call : Call) where
         let c = headIn d call q in
         let long = window-length (ringOf d q .window .start) (ringOf d q .window .length) (call .memory) (s .fits) in
         let held = both-right (leb (ringOf d q .cursor) 65536) _ (rings-sound d state q (s .number)) in
-        rw long at (performed-frame c (isFull (slotOf d (c .rdst))) (ringIn call q) (windowIn d call q) (ringOf d q .frame) (call .pack) (call .pipe) (limitOf d) (rw long held))
+        rw long at (performed-frame c (isFull (slotOf d (c .rdst))) (ringIn call q) (windowIn d call q) (ringOf d q .frame) (call .pack) (call .pipe) (d .limit) (rw long held))
 
     served-sound : stateSound (servedIn d call q .turned .device) ≡ true
     unfolding servedOf finished ringAfter ringSound
@@ -75,6 +87,7 @@ module _ (d : Device) (call : Call) where
         let c = headIn d call q in
         let p = workIn d call q .performed in
         sound-if _ (rw (after-marker d q c p) (next-below q (picked-servable d call q sound pick .number)))
+        (rw (after-limit d q c p) (limit-sound d state))
         (λ n four.
         after-ring d q c p (λ r. ringSound r ≡ true) n (λ e. rw (le-leb _ 65536 cursor-inside, frame-passes)) (rings-sound d state n four))
 
@@ -140,12 +153,18 @@ module _ (d : Device) (call : Call) where
       number-has (λ n. n ≡ k → ⊥) (λ e same. memory e (sym same)) (λ e same. state e (sym same))
       (λ same. omega arith) (λ same. omega arith) (λ same. omega arith) (λ n h same. omega arith)
 
+  -- a limit that does not fit is refused where the windows do
+  limit-refused : windowsFit d (length (call .memory)) ≡ true → (d .limit ≡ 0) ⊎ (65536 < d .limit) → verdictOn d call ≡ Refused Refusal.State
+  unfolding verdictOn verdictOf stateSound
+  limit-refused fits outside = rw (fits, limit-unfit (d .limit) outside, both-false (leb (d .marker) 3))
+
   stays-sound : StaysSound d call
   stays-sound = record {
     state = left-sound;
     windows = left-windows;
     fits = left-fits;
     not-102 = λ state. number-not 102 (lit≤ tt) (lit≤ tt) (λ e same. omega arith) (λ e same. let z : _≡_ {A = ℕ} 0 1 = cc in omega arith);
+    limit-102 = λ fits outside. refused-number {why = Refusal.State} (limit-refused fits outside);
     not-101 = λ fits. number-not 101 (lit≤ tt) (lit≤ tt) (λ e same. let z : _≡_ {A = ℕ} 0 1 = cc in omega arith) (λ e same. omega arith);
   }
 
@@ -166,33 +185,47 @@ pub sound-refusals : SoundRefusals
 unfolding SoundRefusals
 sound-refusals d call = refused-for-lent d call
 
-fresh-sound : (w0 w1 w2 w3 : Window) → stateSound (freshDevice w0 w1 w2 w3) ≡ true
+fresh-sound : (w0 w1 w2 w3 : Window) (limit : ℕ) → limitFits limit ≡ true → stateSound (freshDevice w0 w1 w2 w3 limit) ≡ true
 unfolding freshDevice ringOf stateSound ringSound heldFault
-fresh-sound w0 w1 w2 w3 = refl
+fresh-sound w0 w1 w2 w3 limit fits = rw fits
 
-fresh-fits : (memory : ℕ) (w0 w1 w2 w3 : Window) → windowsFit (freshDevice w0 w1 w2 w3) memory ≡ memoryFits memory w0 w1 w2 w3
+fresh-fits : (memory : ℕ) (w0 w1 w2 w3 : Window) (limit : ℕ) → windowsFit (freshDevice w0 w1 w2 w3 limit) memory ≡ memoryFits memory w0 w1 w2 w3
 unfolding freshDevice ringOf windowsFit
-fresh-fits memory w0 w1 w2 w3 = refl
+fresh-fits memory w0 w1 w2 w3 limit = refl
 
 -- four empty windows fit every memory that is not too long
 empty-fit : (n : ℕ) → n ≤ 1048576 → memoryFits n emptyWindow emptyWindow emptyWindow emptyWindow ≡ true
 unfolding memoryFits windowFits
 empty-fit n short = rw (le-leb n 1048576 short, le-leb 0 n (omega arith))
 
+-- the empty device is sound, and its windows fit every memory that is not too long
+empty-sound : stateSound emptyDevice ≡ true
+unfolding emptyDevice limitFits
+empty-sound = fresh-sound emptyWindow emptyWindow emptyWindow emptyWindow defaultLimit refl
+
+empty-fits : (n : ℕ) → n ≤ 1048576 → windowsFit emptyDevice n ≡ true
+unfolding emptyDevice
+empty-fits n short = fresh-fits n emptyWindow emptyWindow emptyWindow emptyWindow defaultLimit ∙ empty-fit n short
+
 pub fresh-makes-sound : FreshMakesSound
-unfolding FreshMakesSound freshOf
-fresh-makes-sound memory w0 w1 w2 w3 = go (memoryFits memory w0 w1 w2 w3) refl
+unfolding FreshMakesSound freshWith notMade
+fresh-makes-sound memory w0 w1 w2 w3 limit = go (memoryFits memory w0 w1 w2 w3) (limitFits limit) refl refl
   where
-    go : (b : Bool) → memoryFits memory w0 w1 w2 w3 ≡ b → MakesSound memory w0 w1 w2 w3
-    go true fits = record {
-      state = rw fits (fresh-sound w0 w1 w2 w3);
-      windows = λ made. rw fits (fresh-fits memory w0 w1 w2 w3 ∙ fits);
-      empty = λ refused n short. absurd (let z : _≡_ {A = ℕ} 0 101 = rw fits at refused in omega arith);
+    go : (m l : Bool) → memoryFits memory w0 w1 w2 w3 ≡ m → limitFits limit ≡ l → MakesSound memory w0 w1 w2 w3 limit
+    go true true fits limited = record {
+      state = rw (fits, limited) (fresh-sound w0 w1 w2 w3 limit limited);
+      windows = λ made. rw (fits, limited) (fresh-fits memory w0 w1 w2 w3 limit ∙ fits);
+      empty = λ refused n short. absurd (let z : 101 ≤ 0 = rw (fits, limited) at refused in omega arith);
     }
-    go false unfit = record {
-      state = rw unfit (fresh-sound emptyWindow emptyWindow emptyWindow emptyWindow);
+    go true false fits unfit = record {
+      state = rw (fits, unfit) empty-sound;
+      windows = λ made. absurd (let z : _≡_ {A = ℕ} 102 0 = rw (fits, unfit) at made in omega arith);
+      empty = λ refused n short. rw (fits, unfit) (empty-fits n short);
+    }
+    go false l unfit limited = record {
+      state = rw unfit empty-sound;
       windows = λ made. absurd (let z : _≡_ {A = ℕ} 101 0 = rw unfit at made in omega arith);
-      empty = λ refused n short. rw unfit (fresh-fits n emptyWindow emptyWindow emptyWindow emptyWindow ∙ empty-fit n short);
+      empty = λ refused n short. rw unfit (empty-fits n short);
     }
 
 pub calls-stay-sound : CallsStaySound
@@ -204,6 +237,6 @@ calls-stay-sound memory d (call ∷ calls) state fits =
 
 pub fresh-stays-sound : FreshStaysSound
 unfolding FreshStaysSound FreshMakesSound CallsStaySound
-fresh-stays-sound memory w0 w1 w2 w3 calls made =
-    let fresh = fresh-makes-sound memory w0 w1 w2 w3 in
-    calls-stay-sound memory (freshOf memory w0 w1 w2 w3 .device) calls (fresh .state) (fresh .windows made)
+fresh-stays-sound memory w0 w1 w2 w3 limit calls made =
+    let fresh = fresh-makes-sound memory w0 w1 w2 w3 limit in
+    calls-stay-sound memory (freshWith memory w0 w1 w2 w3 limit .device) calls (fresh .state) (fresh .windows made)

@@ -13,7 +13,7 @@ use Rattle.state.specs.declared.ready.Picked.the-variants.{Ring as RingOf}
 use Rattle.device.specs.declared.turn.Report.{Report}
 use Rattle.device.specs.declared.turn.Answer.{Answer}
 use Rattle.device.specs.declared.turn.Answer.the-variants.{Refused as RefusedFor, Idle, Served}
-use Rattle.state.specs.Device.{ringOf, slotOf, limitOf}
+use Rattle.state.specs.Device.{ringOf, slotOf}
 use Rattle.device.specs.Answer.{valuesOf}
 use Rattle.device.specs.Turn.{Call, unchanged, reportOf, finished, servedOf, verdictOn, turnOf, ringIn, pickIn}
 use Rattle.demands.specs.Calls.{headIn, answerOf, numberIn, valuesIn, isRefused}
@@ -31,7 +31,7 @@ toldBy other (Served report) = report
 abbrev pub workIn : Device → Call → ℕ → Left
 workIn d call q =
     performedOf (headIn d call q) (isFull (slotOf d (headIn d call q .rdst))) (ringIn call q)
-    (windowOf (ringOf d q .window .start) (ringOf d q .window .length) (call .memory)) (ringOf d q .frame) (call .pack) (call .pipe) (limitOf d)
+    (windowOf (ringOf d q .window .start) (ringOf d q .window .length) (call .memory)) (ringOf d q .frame) (call .pack) (call .pipe) (d .limit)
 
 abbrev pub reportIn : Device → Call → ℕ → Report
 reportIn d call q = reportOf d q (headIn d call q) (workIn d call q .performed)

@@ -54,5 +54,5 @@ IdleInTime = (d : Device) → Shaped d → IdleInTimeFrom d
 -- from fresh, the bytes not yet taken are those of the four rings
 unfoldable pub FreshIdleInTime : Type 0
 FreshIdleInTime =
-    (w0 w1 w2 w3 : Window) (R : ℕ → List ℕ) (calls : List Call) → EachHeard (Lends R) (freshDevice w0 w1 w2 w3) calls
-    → sumOf 4 (λ q. length (R q)) < 16 * heard (freshDevice w0 w1 w2 w3) calls → SaysIdle (freshDevice w0 w1 w2 w3) calls
+    (w0 w1 w2 w3 : Window) (limit : ℕ) (R : ℕ → List ℕ) (calls : List Call) → EachHeard (Lends R) (freshDevice w0 w1 w2 w3 limit) calls
+    → sumOf 4 (λ q. length (R q)) < 16 * heard (freshDevice w0 w1 w2 w3 limit) calls → SaysIdle (freshDevice w0 w1 w2 w3 limit) calls

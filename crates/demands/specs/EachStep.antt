@@ -36,7 +36,7 @@ use Rattle.work.specs.Work.{ranOutcome}
 use Rattle.work.specs.Perform.{faultOf}
 use Rattle.state.specs.declared.device.Device.{Device}
 use Rattle.state.specs.Slots.{isFull}
-use Rattle.state.specs.Device.{limitOf, ringOf, slotOf}
+use Rattle.state.specs.Device.{ringOf, slotOf}
 use Rattle.device.specs.Turn.{Call, turnOf}
 use Rattle.demands.specs.Calls.{headIn, numberIn, valuesIn, ringServed}
 
@@ -57,7 +57,7 @@ kernelIn d call q = kernelOf (call .pack) (headIn d call q .arg2)
 abbrev pub threadsIn : Device → Call → ℕ → Dispatched
 threadsIn d call q =
     let c = headIn d call q in
-    threadsOf (c .arg0 * c .arg1) (limitOf d) (call .pack) (kernelIn d call q) (c .arg0) (c .arg1) (windowIn d call q)
+    threadsOf (c .arg0 * c .arg1) (d .limit) (call .pack) (kernelIn d call q) (c .arg0) (c .arg1) (windowIn d call q)
 
 -- thread j of group g as it starts
 abbrev pub threadIn : Device → Call → ℕ → ℕ → ℕ → Thread
@@ -101,8 +101,9 @@ pub record StepsInOrder (limit : ℕ) (pack : List ℕ) (kernel : Kernel) (t : T
 
 -- one step: 14, then running off the end (12), then 11, then the branch (12) or address (13)
 pub record StepByRule (limit : ℕ) (pack : List ℕ) (kernel : Kernel) (t : Thread) (window : List ℕ) : Type 0 where
-  -- a thread that already took the limit's steps
+  -- 14 exactly for a thread that already took the limit's steps
   pub at-the-limit : limit ≤ t .steps → stepOf limit pack kernel t window ≡ stoppedAs OutOfSteps t window
+  pub only-at-the-limit : stepOf limit pack kernel t window .stepped .progress ≡ Stopped OutOfSteps → limit ≤ t .steps
   -- else one that ran off the kernel's end
   pub off-the-end : t .steps < limit → kernel .length ≤ t .place → stepOf limit pack kernel t window ≡ stoppedAs OffTheKernel t window
   -- else a word that is not in the list
@@ -142,6 +143,11 @@ pub record LimitTied (limit : ℕ) (pack : List ℕ) (kernel : Kernel) (t : Thre
   pub wfi : (n : ℕ) (t′ : Thread) (window′ : List ℕ) → n + 1 ≡ limit → stepsOf n limit pack kernel t window ≡ running t′ window′
       → t′ .place < kernel .length → opOf (codeWord pack kernel (t′ .place)) ≡ Wfi
       → runOf limit pack kernel t window ≡ record { stepped = endsThread t′; window = window′ }
+  -- after any other instruction that is step number `limit` and leaves it running, 14 is given, wherever the thread is then, past
+  -- the kernel's last word too: so under a limit of 1 one instruction is run, then 14
+  pub last : (n : ℕ) (t′ t″ : Thread) (window′ window″ : List ℕ) → n + 1 ≡ limit → stepsOf n limit pack kernel t window ≡ running t′ window′
+      → t′ .place < kernel .length → executed (kernel .length) (decoded (codeWord pack kernel (t′ .place))) t′ window′ ≡ running t″ window″
+      → runOf limit pack kernel t window ≡ stoppedAs OutOfSteps t″ window″
 
 -- no thread before this one stopped, and on the window that those left it is still running after the limit's steps
 pub record FirstOutOfSteps (limit : ℕ) (pack : List ℕ) (kernel : Kernel) (groups threads : ℕ) (window : List ℕ) : Type 0 where
@@ -157,7 +163,7 @@ pub record FirstOutOfSteps (limit : ℕ) (pack : List ℕ) (kernel : Kernel) (gr
 abbrev pub OutOfStepsIn : Device → Call → ℕ → Type 0
 OutOfStepsIn d call q =
     let c = headIn d call q in
-    FirstOutOfSteps (limitOf d) (call .pack) (kernelIn d call q) (c .arg0) (c .arg1) (windowIn d call q)
+    FirstOutOfSteps (d .limit) (call .pack) (kernelIn d call q) (c .arg0) (c .arg1) (windowIn d call q)
 
 -- the number of the outcome that a stop gives
 abbrev pub stopNumber : Stop → ℕ
@@ -169,15 +175,15 @@ pub record StepByStep (d : Device) (call : Call) : Type 0 where
   pub served : numberIn d call ≡ 0 → Dispatches d call (ringServed d call)
       → Leaves d call (threadsIn d call (ringServed d call))
   -- its threads run in order
-  pub threads : (kernel : Kernel) (groups threads : ℕ) (window : List ℕ) → ThreadsInOrder (limitOf d) (call .pack) kernel groups threads window
+  pub threads : (kernel : Kernel) (groups threads : ℕ) (window : List ℕ) → ThreadsInOrder (d .limit) (call .pack) kernel groups threads window
   -- each takes its steps in order
-  pub steps : (kernel : Kernel) (t : Thread) (window : List ℕ) → StepsInOrder (limitOf d) (call .pack) kernel t window
+  pub steps : (kernel : Kernel) (t : Thread) (window : List ℕ) → StepsInOrder (d .limit) (call .pack) kernel t window
   -- each step is by the instruction's rule
-  pub step : (kernel : Kernel) (t : Thread) (window : List ℕ) → StepByRule (limitOf d) (call .pack) kernel t window
+  pub step : (kernel : Kernel) (t : Thread) (window : List ℕ) → StepByRule (d .limit) (call .pack) kernel t window
   -- the limit's last step of each thread of a served dispatch, thread j of group g, is tied to the state after that many steps
   pub limits : numberIn d call ≡ 0 → Dispatches d call (ringServed d call) → (g j : ℕ)
       → g < headIn d call (ringServed d call) .arg0 → j < headIn d call (ringServed d call) .arg1 → (window : List ℕ)
-      → LimitTied (limitOf d) (call .pack) (kernelIn d call (ringServed d call)) (threadIn d call (ringServed d call) g j) window
+      → LimitTied (d .limit) (call .pack) (kernelIn d call (ringServed d call)) (threadIn d call (ringServed d call) g j) window
   -- and the turn's outcome is 14 exactly if the first of them to stop is still running after the limit's steps
   pub fourteen : numberIn d call ≡ 0 → Dispatches d call (ringServed d call)
       → (valuesIn d call .outcome ≡ 14) ↔ OutOfStepsIn d call (ringServed d call)

@@ -59,7 +59,7 @@ lastOf d (call ∷ calls) = lastOf (leftBy d call) calls
 -- after calls from fresh, one more call answers idle: then no order has started more of a ring than the device took
 unfoldable pub IdleIsDone : Type 0
 IdleIsDone =
-    (w0 w1 w2 w3 : Window) (R : ℕ → List ℕ) (calls : List Call) (last : Call)
-    → EachHeard (Lends R) (freshDevice w0 w1 w2 w3) calls → Lends R last
-    → numberIn (lastOf (freshDevice w0 w1 w2 w3) calls) last ≡ 1
-    → (n : ℕ → ℕ) → Order R n → (q : ℕ) → n q ≤ taken (freshDevice w0 w1 w2 w3) calls q
+    (w0 w1 w2 w3 : Window) (limit : ℕ) (R : ℕ → List ℕ) (calls : List Call) (last : Call)
+    → EachHeard (Lends R) (freshDevice w0 w1 w2 w3 limit) calls → Lends R last
+    → numberIn (lastOf (freshDevice w0 w1 w2 w3 limit) calls) last ≡ 1
+    → (n : ℕ → ℕ) → Order R n → (q : ℕ) → n q ≤ taken (freshDevice w0 w1 w2 w3 limit) calls q

@@ -8,12 +8,12 @@ use lib.ListN.{length, getD}
 use Rattle.state.specs.declared.device.Window.{Window}
 use Rattle.state.specs.declared.device.Device.{Device}
 use Rattle.device.specs.declared.fresh.Fresh.{Fresh}
-use Rattle.state.specs.Device.{emptyWindow, freshDevice, ringOf}
+use Rattle.state.specs.Device.{emptyWindow, freshDevice, emptyDevice, ringOf}
 use Rattle.state.specs.Refusal.{memoryFits}
 use Rattle.device.specs.Answer.{noValues, valuesOf, makingNumber}
-use Rattle.device.specs.Fresh.{freshOf}
+use Rattle.device.specs.Fresh.{freshWith, freshOf}
 use Rattle.device.specs.Turn.{Call, TurnEnd, turnOf}
-use Rattle.demands.specs.Calls.{numberIn, valuesIn, ringServed}
+use Rattle.demands.specs.Calls.{leftBy, numberIn, valuesIn, ringServed}
 
 -- device, memory and pipe are as they were, and nothing is reported: zeros and no IRQ
 pub record Same (d : Device) (call : Call) (end : TurnEnd) : Type 0 where
@@ -53,6 +53,8 @@ pub record Keeps (d : Device) (call : Call) : Type 0 where
   pub long : length (turnOf d call .memory) ≡ length (call .memory)
   -- the pipe keeps its length, and its bytes past the words read
   pub pipe : numberIn d call ≡ 0 → PipeKept (valuesIn d call .words) (call .pipe) (turnOf d call .pipe)
+  -- no turn, served, idle or refused, changes the limit
+  pub limit : leftBy d call .limit ≡ d .limit
 
 unfoldable pub TurnKeeps : Type 0
 TurnKeeps = (d : Device) (call : Call) → Keeps d call
@@ -62,11 +64,26 @@ pub record Gives (fresh : Fresh) (d : Device) (number : ℕ) : Type 0 where
   pub device : fresh .device ≡ d
   pub answer : makingNumber (fresh .answer) ≡ number
 
--- making a device over a memory of `memory` bytes: it is made, or where the windows do not fit it gives 101 and an empty device
-pub record Making (memory : ℕ) (w0 w1 w2 w3 : Window) : Type 0 where
-  pub made : memoryFits memory w0 w1 w2 w3 ≡ true → Gives (freshOf memory w0 w1 w2 w3) (freshDevice w0 w1 w2 w3) 0
-  pub refused : memoryFits memory w0 w1 w2 w3 ≡ false
-      → Gives (freshOf memory w0 w1 w2 w3) (freshDevice emptyWindow emptyWindow emptyWindow emptyWindow) 101
+-- making a device over a memory of `memory` bytes with a limit named: 101 if the memory or a window does not fit, else 102 if the
+-- limit does not, and for nothing else; with either comes the empty device
+pub record MakingWith (memory : ℕ) (w0 w1 w2 w3 : Window) (limit : ℕ) : Type 0 where
+  pub made : memoryFits memory w0 w1 w2 w3 ≡ true → 1 ≤ limit → limit ≤ 65536
+      → Gives (freshWith memory w0 w1 w2 w3 limit) (freshDevice w0 w1 w2 w3 limit) 0
+  pub refused-101 : memoryFits memory w0 w1 w2 w3 ≡ false → Gives (freshWith memory w0 w1 w2 w3 limit) emptyDevice 101
+  pub refused-102 : memoryFits memory w0 w1 w2 w3 ≡ true → (limit ≡ 0) ⊎ (65536 < limit)
+      → Gives (freshWith memory w0 w1 w2 w3 limit) emptyDevice 102
 
-unfoldable pub FreshMakes : Type 0
-FreshMakes = (memory : ℕ) (w0 w1 w2 w3 : Window) → Making memory w0 w1 w2 w3
+-- with none named: the limit is 16,384, and a refusal can only be 101
+pub record Making (memory : ℕ) (w0 w1 w2 w3 : Window) : Type 0 where
+  pub made : memoryFits memory w0 w1 w2 w3 ≡ true → Gives (freshOf memory w0 w1 w2 w3) (freshDevice w0 w1 w2 w3 16384) 0
+  pub refused : memoryFits memory w0 w1 w2 w3 ≡ false → Gives (freshOf memory w0 w1 w2 w3) emptyDevice 101
+
+-- the empty device: four empty windows at 0, and the limit 16,384
+pub record Empty (d : Device) : Type 0 where
+  pub windows : (q : ℕ) → ringOf d q .window ≡ emptyWindow
+  pub limit : d .limit ≡ 16384
+
+pub record FreshMakes : Type 0 where
+  pub named : (memory : ℕ) (w0 w1 w2 w3 : Window) (limit : ℕ) → MakingWith memory w0 w1 w2 w3 limit
+  pub unnamed : (memory : ℕ) (w0 w1 w2 w3 : Window) → Making memory w0 w1 w2 w3
+  pub empty : Empty emptyDevice

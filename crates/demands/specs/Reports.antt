@@ -55,6 +55,8 @@ pub record Reported (d : Device) (q : ℕ) (c : Command) (v : Values) (after : D
   pub other-rings : (n : ℕ) → (n ≡ q → ⊥) → ringOf after n ≡ ringOf d n
   -- the marker is the ring after the served one
   pub marker : after .marker ≡ nextRing q
+  -- the limit stays
+  pub limit : after .limit ≡ d .limit
 
 -- a served ring was ready, and its head command is reported
 pub record Serving (d : Device) (call : Call) (v : Values) : Type 0 where

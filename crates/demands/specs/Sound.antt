@@ -3,6 +3,7 @@ use Prim.Native.Nat.{ℕ, _≤_, _<_}
 use mathlib.Core.Path.{_≡_}
 use mathlib.Core.Bool.{Bool, true, false}
 use mathlib.Core.List.{List}
+use mathlib.Core.Logic.{_⊎_}
 use lib.ListN.{length}
 use Rattle.pack.specs.Kernels.{soundPack}
 use Rattle.state.specs.declared.device.Window.{Window}
@@ -10,7 +11,7 @@ use Rattle.state.specs.declared.device.Device.{Device}
 use Rattle.state.specs.Device.{ringOf}
 use Rattle.device.specs.Answer.{makingNumber}
 use Rattle.state.specs.Refusal.{windowsFit, stateSound, ringsFit}
-use Rattle.device.specs.Fresh.{freshOf}
+use Rattle.device.specs.Fresh.{freshWith}
 use Rattle.device.specs.Turn.{Call}
 use Rattle.demands.specs.Calls.{leftBy, numberIn, EachCall}
 
@@ -26,6 +27,8 @@ pub record StaysSound (d : Device) (call : Call) : Type 0 where
   pub not-102 : stateSound d ≡ true → numberIn d call ≡ 102 → ⊥
   -- a call whose memory the windows fit is not refused as 101
   pub not-101 : windowsFit d (length (call .memory)) ≡ true → numberIn d call ≡ 101 → ⊥
+  -- and if the limit is 0 or above 65,536 it is refused as 102
+  pub limit-102 : windowsFit d (length (call .memory)) ≡ true → (d .limit ≡ 0) ⊎ (65536 < d .limit) → numberIn d call ≡ 102
 
 unfoldable pub TurnStaysSound : Type 0
 TurnStaysSound = (d : Device) (call : Call) → StaysSound d call
@@ -47,17 +50,18 @@ unfoldable pub SoundRefusals : Type 0
 SoundRefusals =
     (d : Device) (call : Call) → stateSound d ≡ true → windowsFit d (length (call .memory)) ≡ true → RefusedForLent d call
 
--- making a device over a memory of `memory` bytes
-pub record MakesSound (memory : ℕ) (w0 w1 w2 w3 : Window) : Type 0 where
+-- making a device over a memory of `memory` bytes, with a limit named
+pub record MakesSound (memory : ℕ) (w0 w1 w2 w3 : Window) (limit : ℕ) : Type 0 where
   -- made or refused, its state is sound
-  pub state : stateSound (freshOf memory w0 w1 w2 w3 .device) ≡ true
+  pub state : stateSound (freshWith memory w0 w1 w2 w3 limit .device) ≡ true
   -- made, its windows fit the memory
-  pub windows : makingNumber (freshOf memory w0 w1 w2 w3 .answer) ≡ 0 → windowsFit (freshOf memory w0 w1 w2 w3 .device) memory ≡ true
+  pub windows : makingNumber (freshWith memory w0 w1 w2 w3 limit .answer) ≡ 0 → windowsFit (freshWith memory w0 w1 w2 w3 limit .device) memory ≡ true
   -- refused, they are empty and fit every memory that is not too long
-  pub empty : makingNumber (freshOf memory w0 w1 w2 w3 .answer) ≡ 101 → (n : ℕ) → n ≤ 1048576 → windowsFit (freshOf memory w0 w1 w2 w3 .device) n ≡ true
+  pub empty : 101 ≤ makingNumber (freshWith memory w0 w1 w2 w3 limit .answer) → (n : ℕ) → n ≤ 1048576 → windowsFit (freshWith memory w0 w1 w2 w3 limit .device) n ≡ true
 
+-- with none named it is 16,384
 unfoldable pub FreshMakesSound : Type 0
-FreshMakesSound = (memory : ℕ) (w0 w1 w2 w3 : Window) → MakesSound memory w0 w1 w2 w3
+FreshMakesSound = (memory : ℕ) (w0 w1 w2 w3 : Window) (limit : ℕ) → MakesSound memory w0 w1 w2 w3 limit
 
 -- a call over a device that was handed back: it is not refused as 102, and on `memory` bytes only for what it lends
 pub record HandedBack (memory : ℕ) (d : Device) (call : Call) : Type 0 where
@@ -73,5 +77,5 @@ CallsStaySound =
 -- and from a made device, with the memory's length that it was made for
 unfoldable pub FreshStaysSound : Type 0
 FreshStaysSound =
-    (memory : ℕ) (w0 w1 w2 w3 : Window) (calls : List Call) → makingNumber (freshOf memory w0 w1 w2 w3 .answer) ≡ 0
-    → EachCall (HandedBack memory) (freshOf memory w0 w1 w2 w3 .device) calls
+    (memory : ℕ) (w0 w1 w2 w3 : Window) (limit : ℕ) (calls : List Call) → makingNumber (freshWith memory w0 w1 w2 w3 limit .answer) ≡ 0
+    → EachCall (HandedBack memory) (freshWith memory w0 w1 w2 w3 limit .device) calls

@@ -19,7 +19,7 @@ use Rattle.command.specs.declared.frame.Frame.the-variants.{Held}
 use Rattle.command.specs.Outcome.{outcomeNumber}
 use Rattle.work.specs.Work.{ranOutcome}
 use Rattle.state.specs.declared.device.Device.{Device}
-use Rattle.state.specs.Device.{emptyWindow, freshRing, deviceOf}
+use Rattle.state.specs.Device.{emptyWindow, freshRing, deviceOf, defaultLimit}
 use Rattle.device.specs.Answer.{answerNumber, noValues, valuesOf}
 use Rattle.device.specs.Turn.{Call, callOf, TurnEnd, turnOf}
 use Rattle.demands.specs.Calls.{ServesRing}
@@ -31,13 +31,17 @@ wordBytes w = byteOf 0 w ∷ byteOf 1 w ∷ byteOf 2 w ∷ byteOf 3 w ∷ []
 abbrev pub header : ℕ → ℕ → ℕ → ℕ → ℕ → ℕ → ℕ → List ℕ
 header opcode flags rdst len arg0 arg1 arg2 = opcode ∷ flags ∷ rdst ∷ len ∷ (wordBytes arg0 ++ (wordBytes arg1 ++ wordBytes arg2))
 
--- a device whose ring 0 has a window of n bytes and a frame of stride 16, its marker at m
-abbrev pub framed : ℕ → ℕ → Device
-framed n m =
+-- a device under this limit whose ring 0 has a window of n bytes and a frame of stride 16, its marker at m
+abbrev pub framedUnder : ℕ → ℕ → ℕ → Device
+framedUnder limit n m =
     deviceOf
     (record { window = record { start = 0; length = n }; cursor = 0; frame = Held 0 16 0 }
     ∷ freshRing emptyWindow ∷ freshRing emptyWindow ∷ freshRing emptyWindow ∷ [])
-    (replicate 64 0) m
+    (replicate 64 0) m limit
+
+-- under the limit of a device that names none
+abbrev pub framed : ℕ → ℕ → Device
+framed = framedUnder defaultLimit
 
 -- a call with these rings, n zero bytes of memory and no kernels
 abbrev pub lent : ℕ → List ℕ → List ℕ → List ℕ → List ℕ → Call
@@ -118,9 +122,10 @@ pub record Table : Type 0 where
   pub p8 : ((limit groups threads : ℕ) (window : List ℕ) → 1 ≤ limit → 1 ≤ groups → 1 ≤ threads → length window < 2 ^ 32
       → EndsWith 13 window (dispatchOf limit (packOf 0xFE502E0D) 0 groups threads window))
       × OutcomeOn0 13 (turnOf (framed 64 0) (oneThread 0xFE502E0D))
-  -- 0000000E branches to itself: 14
+  -- 0000000E branches to itself: 14, in any dispatch under any limit, and as a whole turn under each limit from 1 to 65,536
   pub p9 : ((limit groups threads : ℕ) (window : List ℕ) → 1 ≤ groups → 1 ≤ threads
       → EndsWith 14 window (dispatchOf limit (packOf 0x0000000E) 0 groups threads window))
+      × ((limit : ℕ) → 1 ≤ limit → limit ≤ 65536 → OutcomeOn0 14 (turnOf (framedUnder limit 64 0) (oneThread 0x0000000E)))
       × OutcomeOn0 14 (turnOf (framed 64 0) (oneThread 0x0000000E))
   -- VADD.I8 of 010000FF and 01000001: 02000000; as I16: 02000100 (0020A1AF and 002091AF, v1 and v2 to v3)
   pub p10 : (vector 3 (afterWord 0x0020A1AF (holding 0x010000FF 0x01000001)) ≡ broadcast 0x02000000)
@@ -129,3 +134,11 @@ pub record Table : Type 0 where
   pub p11 : FirstFour 1 (lent 64 barrier barrier barrier barrier) 1 2 3 0
   -- two rings, each waiting for the other's next emit: idle at once
   pub p12 : IdleTurn (turnOf (framed 64 0) (lent 64 (waitFor 0 ++ emitTo 1) (waitFor 1 ++ emitTo 0) [] []))
+
+-- the least limit: it runs one instruction, and 14 comes before running off the end
+pub record LeastLimit : Type 0 where
+  -- a kernel of FFF00297 (ADDI) alone: 14 under a limit of 1; under one of 2 it runs off the end, 12
+  pub one : OutcomeOn0 14 (turnOf (framedUnder 1 64 0) (oneThread 0xFFF00297))
+  pub two : OutcomeOn0 12 (turnOf (framedUnder 2 64 0) (oneThread 0xFFF00297))
+  -- one of 0000700F (WFI) alone ends by the limit's step
+  pub wfi : OutcomeOn0 0 (turnOf (framedUnder 1 64 0) (oneThread 0x0000700F))

@@ -1,4 +1,4 @@
--- A turn leaves four rings and 64 slots, and a fresh device has them; an emit leaves numbers that fit.
+-- A turn leaves four rings, 64 slots and the limit, and a fresh device has its rings and slots; an emit leaves numbers that fit.
 -- Assumes nothing.
 use mathlib.Core.Path.{_≡_, refl, ap, _∙_}
 use mathlib.Core.Bool.{Bool, true, false, cond}
@@ -10,13 +10,13 @@ use Rattle.command.specs.declared.header.Command.{Command}
 use Rattle.work.specs.declared.work.Performed.{Performed}
 use Rattle.state.specs.declared.device.Device.{Device}
 use Rattle.state.specs.declared.device.Window.{Window}
-use Rattle.state.specs.declared.refusal.Refusal.the-variants.{Memory}
-use Rattle.device.specs.declared.fresh.Making.the-variants.{Made, Refused as Refuses}
+use Rattle.state.specs.declared.refusal.Refusal.the-variants.{Memory, State}
+use Rattle.device.specs.declared.fresh.Making.the-variants.{Made}
 use Rattle.device.specs.declared.fresh.Fresh.{Fresh}
 use Rattle.state.specs.Slots.{emitted, emittedIn}
-use Rattle.state.specs.Device.{Shaped, SlotsFit, slotOf, emptyWindow, withRing, withSlots, withMarker, freshDevice}
-use Rattle.device.specs.Fresh.{freshOf}
-use Rattle.state.specs.Refusal.{memoryFits}
+use Rattle.state.specs.Device.{Shaped, SlotsFit, slotOf, emptyWindow, withRing, withSlots, withMarker, defaultLimit, freshDevice, emptyDevice}
+use Rattle.device.specs.Fresh.{notMade, freshWith}
+use Rattle.state.specs.Refusal.{memoryFits, limitFits}
 use Rattle.device.specs.Turn.{Call, emitTo, deviceAfter, finished, servedOf, unchanged, turnOf}
 use Rattle.device.proofs.Turns.{turn-cases}
 
@@ -40,6 +40,16 @@ unfolding emitTo withSlots emittedIn slotOf SlotsFit
 emit-fits true d n fit m = put-each (λ x. x < 2 ^ 32) 0 (d .slots) n (emitted (getD (d .slots) n 0)) m (λ e. omega arith) (fit m)
 emit-fits false d n fit m = fit m
 
+-- an emit changes no limit, and so no served command
+emit-limit : (b : Bool) (d : Device) (n : ℕ) → emitTo b d n .limit ≡ d .limit
+unfolding emitTo withSlots
+emit-limit true d n = refl
+emit-limit false d n = refl
+
+pub after-limit : (d : Device) (q : ℕ) (c : Command) (p : Performed) → deviceAfter d q c p .limit ≡ d .limit
+unfolding deviceAfter withMarker withRing
+after-limit d q c p = emit-limit _ _ (c .rdst)
+
 pub after-shaped : (d : Device) (q : ℕ) (c : Command) (p : Performed) → Shaped d → Shaped (deviceAfter d q c p)
 unfolding deviceAfter withMarker withRing
 after-shaped d q c p s =
@@ -52,14 +62,24 @@ unfolding unchanged servedOf finished
 turn-shaped d call s =
     turn-cases d call (λ end. Shaped (end .turned .device)) (λ why v. s) (λ sound p. s) (λ q sound p. after-shaped d q _ _ s)
 
-pub fresh-shaped : (w0 w1 w2 w3 : Window) → Shaped (freshDevice w0 w1 w2 w3)
+pub fresh-shaped : (w0 w1 w2 w3 : Window) (limit : ℕ) → Shaped (freshDevice w0 w1 w2 w3 limit)
 unfolding freshDevice
-fresh-shaped w0 w1 w2 w3 = record { rings = refl; slots = refl }
+fresh-shaped w0 w1 w2 w3 limit = record { rings = refl; slots = refl }
 
-pub made-shaped : (memory : ℕ) (w0 w1 w2 w3 : Window) → Shaped (freshOf memory w0 w1 w2 w3 .device)
-unfolding freshOf
-made-shaped memory w0 w1 w2 w3 = go (memoryFits memory w0 w1 w2 w3)
+pub empty-shaped : Shaped emptyDevice
+unfolding emptyDevice
+empty-shaped = fresh-shaped emptyWindow emptyWindow emptyWindow emptyWindow defaultLimit
+
+-- what holds of the empty device, and of a fresh one if it is made, holds of what a making gives
+pub made-each : (P : Device → Type 0) (memory : ℕ) (w0 w1 w2 w3 : Window) (limit : ℕ) → P emptyDevice
+    → P (freshDevice w0 w1 w2 w3 limit) → P (freshWith memory w0 w1 w2 w3 limit .device)
+unfolding freshWith notMade
+made-each P memory w0 w1 w2 w3 limit empty fresh = go (memoryFits memory w0 w1 w2 w3) (limitFits limit)
   where
-    go : (b : Bool) → Shaped (cond {A = Fresh} b (record { device = freshDevice w0 w1 w2 w3; answer = Made }) (record { device = freshDevice emptyWindow emptyWindow emptyWindow emptyWindow; answer = Refuses Memory }) .device)
-    go true = fresh-shaped w0 w1 w2 w3
-    go false = fresh-shaped emptyWindow emptyWindow emptyWindow emptyWindow
+    go : (m l : Bool) → P (cond {A = Fresh} m (cond {A = Fresh} l (record { device = freshDevice w0 w1 w2 w3 limit; answer = Made }) (notMade State)) (notMade Memory) .device)
+    go true true = fresh
+    go true false = empty
+    go false l = empty
+
+pub made-shaped : (memory : ℕ) (w0 w1 w2 w3 : Window) (limit : ℕ) → Shaped (freshWith memory w0 w1 w2 w3 limit .device)
+made-shaped memory w0 w1 w2 w3 limit = made-each Shaped memory w0 w1 w2 w3 limit empty-shaped (fresh-shaped w0 w1 w2 w3 limit)

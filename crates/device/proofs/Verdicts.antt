@@ -17,7 +17,7 @@ use Rattle.state.specs.declared.refusal.Verdict.the-variants.{Sound, Refused}
 use Rattle.state.specs.declared.ready.Picked.{Picked}
 use Rattle.state.specs.declared.ready.Picked.the-variants.{Ring}
 use Rattle.state.specs.Device.{ringOf}
-use Rattle.state.specs.Refusal.{windowFits, memoryFits, windowsFit, ringSound, stateSound, ringFits, ringsFit, verdictOf}
+use Rattle.state.specs.Refusal.{windowFits, memoryFits, windowsFit, ringSound, limitFits, stateSound, ringFits, ringsFit, verdictOf}
 use Rattle.state.specs.Ready.{readyWhere, readyAt, nextRing, seek, bytesOfRing, pickOf, Steady}
 use Rattle.device.specs.Turn.{Servable}
 use Rattle.state.proofs.Seeks.{next-below}
@@ -71,12 +71,15 @@ module _ (d : Device) (memory : ℕ) (r0 r1 r2 r3 : List ℕ) (pipe : ℕ) (pack
   pub steady : Steady d
   unfolding stateSound ringSound
   steady = record {
-    marker = omega (arith, leb-true (d .marker) 3 (both-left (leb (d .marker) 3) all-sound (tests .1)));
-    cursors = λ q h. leb-true _ _ (both-left _ _ (all-four (λ p. ringSound (ringOf d p)) (both-right (leb (d .marker) 3) all-sound (tests .1)) q h));
+    marker = omega (arith, leb-true (d .marker) 3 (both-left (leb (d .marker) 3) (limitFits (d .limit)) (both-left numbers rings (tests .1))));
+    cursors = λ q h. leb-true _ _ (both-left _ _ (all-four (λ p. ringSound (ringOf d p)) (both-right numbers rings (tests .1)) q h));
   }
     where
-      all-sound : Bool
-      all-sound = ringSound (ringOf d 0) && ringSound (ringOf d 1) && ringSound (ringOf d 2) && ringSound (ringOf d 3)
+      numbers : Bool
+      numbers = leb (d .marker) 3 && limitFits (d .limit)
+
+      rings : Bool
+      rings = ringSound (ringOf d 0) && ringSound (ringOf d 1) && ringSound (ringOf d 2) && ringSound (ringOf d 3)
 
   window-inside : (q : ℕ) → q < 4 → ringOf d q .window .start + ringOf d q .window .length ≤ memory
   unfolding windowsFit memoryFits windowFits

@@ -1,15 +1,28 @@
--- Making a fresh device can only give 101, and with it comes a fresh device of four empty windows at 0.
+-- Making a fresh device, with a limit named or with none. It can only give 101, and 102 for its limit alone; with either comes
+-- a fresh device of four empty windows at 0, no limit named.
 use mathlib.Core.Bool.{cond}
 use Prim.Native.Nat.{ℕ}
 use Rattle.state.specs.declared.device.Window.{Window}
-use Rattle.state.specs.declared.refusal.Refusal.the-variants.{Memory}
+use Rattle.state.specs.declared.refusal.Refusal.{Refusal}
+use Rattle.state.specs.declared.refusal.Refusal.the-variants.{Memory, State}
 use Rattle.device.specs.declared.fresh.Making.the-variants.{Made, Refused}
 use Rattle.device.specs.declared.fresh.Fresh.{Fresh}
-use Rattle.state.specs.Device.{emptyWindow, freshDevice}
-use Rattle.state.specs.Refusal.{memoryFits}
+use Rattle.state.specs.Device.{defaultLimit, freshDevice, emptyDevice}
+use Rattle.state.specs.Refusal.{memoryFits, limitFits}
 
-unfoldable pub freshOf : ℕ → Window → Window → Window → Window → Fresh
-freshOf memory w0 w1 w2 w3 =
+-- a refused making
+unfoldable pub notMade : Refusal → Fresh
+notMade why = record { device = emptyDevice; answer = Refused why }
+
+-- a limit is named: 101 is tested before 102
+unfoldable pub freshWith : ℕ → Window → Window → Window → Window → ℕ → Fresh
+freshWith memory w0 w1 w2 w3 limit =
     cond (memoryFits memory w0 w1 w2 w3)
-    (record { device = freshDevice w0 w1 w2 w3; answer = Made })
-    (record { device = freshDevice emptyWindow emptyWindow emptyWindow emptyWindow; answer = Refused Memory })
+    (cond (limitFits limit)
+    (record { device = freshDevice w0 w1 w2 w3 limit; answer = Made })
+    (notMade State))
+    (notMade Memory)
+
+-- none is named
+abbrev pub freshOf : ℕ → Window → Window → Window → Window → Fresh
+freshOf memory w0 w1 w2 w3 = freshWith memory w0 w1 w2 w3 defaultLimit

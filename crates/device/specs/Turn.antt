@@ -22,7 +22,7 @@ use Rattle.device.specs.declared.turn.Answer.{Answer}
 use Rattle.device.specs.declared.turn.Answer.the-variants.{Refused as RefusedFor, Idle, Served}
 use Rattle.device.specs.declared.turn.Turned.{Turned}
 use Rattle.state.specs.Slots.{isFull, emitted, emittedIn}
-use Rattle.state.specs.Device.{limitOf, ringOf, slotOf, withRing, withSlots, withMarker}
+use Rattle.state.specs.Device.{ringOf, slotOf, withRing, withSlots, withMarker}
 use Rattle.state.specs.Refusal.{verdictOf}
 use Rattle.state.specs.Ready.{nextRing, bytesOfRing, pickOf}
 
@@ -104,7 +104,7 @@ servedOf d q ring memory pack pipe =
     let r = ringOf d q in
     let c = commandAt ring (r .cursor) in
     let window = windowOf (r .window .start) (r .window .length) memory in
-    let p = performedOf c (isFull (slotOf d (c .rdst))) ring window (r .frame) pack pipe (limitOf d) in
+    let p = performedOf c (isFull (slotOf d (c .rdst))) ring window (r .frame) pack pipe (d .limit) in
     record {
       turned = finished d q c (p .performed);
       memory = putBack (r .window .start) (p .window) memory;

@@ -1,10 +1,12 @@
 // Making a fresh device.
 ghost use mathlib.Core.Path.{_≡_};
-ghost use Rattle.device.specs.Fresh.{freshOf};
+ghost use Rattle.device.specs.Fresh.{notMade, freshWith, freshOf};
 ghost use Rattle.device.specs.Answer.{makingNumber};
+use state::device::DEFAULT_LIMIT;
 use state::device::Device;
 use state::device::Window;
 use state::refusal::Refusal;
+use state::refusal::limit_fits;
 use state::refusal::memory_fits;
 use state::refusal::refusal_number;
 
@@ -28,22 +30,36 @@ pub fn making_number(making: Making) -> u32
     }
 }
 
-// `memory` is the memory's length. A refusal comes with a fresh device of four empty windows at 0.
+fn refused(why: Refusal) -> Fresh
+    ensures { λ r. ⌜ r ≡ notMade why ⌝ }
+{
+    Fresh {
+        device: Device::empty(),
+        answer: Making::Refused(why),
+    }
+}
+
+// With a limit named. `memory` is the memory's length.
+pub fn make_with(memory: usize, w0: Window, w1: Window, w2: Window, w3: Window, limit: u32) -> Fresh
+    ensures { λ r. ⌜ r ≡ freshWith memory w0 w1 w2 w3 limit ⌝ }
+{
+    let memory_fits = memory_fits(memory, w0, w1, w2, w3);
+    let limit_fits = limit_fits(limit);
+    if !memory_fits {
+        return refused(Refusal::Memory);
+    }
+    if !limit_fits {
+        return refused(Refusal::State);
+    }
+    Fresh {
+        device: Device::fresh(w0, w1, w2, w3, limit),
+        answer: Making::Made,
+    }
+}
+
+// With none named.
 pub fn make(memory: usize, w0: Window, w1: Window, w2: Window, w3: Window) -> Fresh
     ensures { λ r. ⌜ r ≡ freshOf memory w0 w1 w2 w3 ⌝ }
 {
-    if memory_fits(memory, w0, w1, w2, w3) {
-        return Fresh {
-            device: Device::fresh(w0, w1, w2, w3),
-            answer: Making::Made,
-        };
-    }
-    let empty = Window {
-        start: 0,
-        length: 0,
-    };
-    Fresh {
-        device: Device::fresh(empty, empty, empty, empty),
-        answer: Making::Refused(Refusal::Memory),
-    }
+    make_with(memory, w0, w1, w2, w3, DEFAULT_LIMIT)
 }

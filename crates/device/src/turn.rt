@@ -123,7 +123,7 @@ fn serve(d: Device, q: u32, mem: &mut [u8], ring: &[u8], pack: &[u8], pipe: &mut
     let at = d.ring(q);
     let command = command_at(ring, at.cursor as usize);
     let full = is_full(d.slot(command.rdst));
-    let limit = d.limit();
+    let limit = d.limit;
     let window = at.window;
     let frame = at.frame;
     let start = window.start as usize;

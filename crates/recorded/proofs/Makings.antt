@@ -2,7 +2,7 @@
 -- Assumes nothing.
 use Prim.Native.Nat.{ℕ}
 use mathlib.Core.Path.{_≡_}
-use mathlib.Core.Bool.{true, _&&_}
+use mathlib.Core.Bool.{Bool, true, not, _&&_, _||_}
 use mathlib.Core.List.{List}
 use lib.Dec.{eqb}
 use borrow.Author.Tests.{eqb-true}
@@ -17,10 +17,11 @@ pub record Whole (body : List ℕ) : Type 0 where
   pub windows : lengthOf body 0 ≡ windowsLength
   pub image : lengthOf body 2 ≡ imageLength
 
-pub whole : (body : List ℕ) → areWhole body ≡ true → Whole body
+pub whole : (named : Bool) (body : List ℕ) → areWhole named body ≡ true → Whole body
 unfolding areWhole
-whole body all =
+whole named body all =
     let windows = eqb (lengthOf body 0) windowsLength in
     let image = eqb (lengthOf body 2) imageLength in
-    let call = both-left (windows && image) (eqb (lengthOf body 1) 8 && eqb (lengthOf body 4) 4) all in
+    let numbers = eqb (lengthOf body 1) 8 && eqb (lengthOf body 4) 4 in
+    let call = both-left (windows && image) numbers (both-left (windows && image && numbers) (not named || eqb (lengthOf body 5) 4) all) in
     record { windows = eqb-true _ _ (both-left windows image call); image = eqb-true _ _ (both-right windows image call) }

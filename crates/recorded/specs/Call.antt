@@ -1,6 +1,6 @@
 -- A recorded call, made again.
 use Prim.Native.Nat.{ℕ}
-use mathlib.Core.Bool.{cond}
+use mathlib.Core.Bool.{true, false, cond}
 use mathlib.Core.List.{List}
 use lib.Dec.{eqb}
 use Rattle.memory.specs.Place.{wordAt}
@@ -9,6 +9,9 @@ use Rattle.recorded.specs.declared.call.Seen.the-variants.{Damaged}
 use Rattle.recorded.specs.Fresh.{freshSeen}
 use Rattle.recorded.specs.Turn.{turnSeen}
 
--- by its first word: 0 makes a fresh device, 1 is a turn, any other is damaged
+-- by its first word: 0 makes a fresh device, 1 is a turn, 2 makes a fresh device with a limit named, any other is damaged
 unfoldable pub callSeen : List ℕ → Seen
-callSeen body = cond (eqb (wordAt body 0) 0) (freshSeen body) (cond (eqb (wordAt body 0) 1) (turnSeen body) Damaged)
+callSeen body =
+    cond (eqb (wordAt body 0) 0) (freshSeen false body)
+    (cond (eqb (wordAt body 0) 1) (turnSeen body)
+    (cond (eqb (wordAt body 0) 2) (freshSeen true body) Damaged))

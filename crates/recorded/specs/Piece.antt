@@ -32,6 +32,10 @@ entryOf body k = bytesOf body (record { start = placeOf body k; end = entryEnd b
 unfoldable pub lengthOf : List ℕ → ℕ → ℕ
 lengthOf body k = wordAt (entryOf body k) 0
 
+-- the word that it is, of four bytes
+unfoldable pub wordOf : List ℕ → ℕ → ℕ
+wordOf body k = wordAt (entryOf body k) 8
+
 -- the number that it is, of at most eight bytes
 unfoldable pub numberOf : List ℕ → ℕ → ℕ
 numberOf body k = 2 ^ 32 * wordAt (entryOf body k) 12 + wordAt (entryOf body k) 8

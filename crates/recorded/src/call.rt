@@ -17,10 +17,13 @@ pub fn compare(body: &[u8]) -> Seen
 {
     let kind = peek_word(body, 0);
     if kind == 0 {
-        return fresh::compare(body);
+        return fresh::compare(body, false);
     }
     if kind == 1 {
         return turn::compare(body);
+    }
+    if kind == 2 {
+        return fresh::compare(body, true);
     }
     Seen::Damaged
 }

@@ -1,43 +1,65 @@
 // A recorded making of a fresh device.
 ghost use mathlib.Core.Path.{_≡_};
-ghost use Rattle.recorded.specs.Fresh.{areWhole, freshSeen};
+ghost use Rattle.capi.specs.Calls.{Freshens};
+ghost use Rattle.recorded.specs.Fresh.{piecesOf, areWhole, Laid, freshMade, freshSeen};
 use crate::call::Seen;
 use crate::piece::is_same;
 use crate::piece::laid;
 use crate::piece::length_of;
 use crate::piece::number_of;
 use crate::piece::place_of;
+use crate::piece::word_of;
 use capi::calls::WINDOWS_BYTES;
 use capi::calls::fresh_call;
+use capi::calls::fresh_with_call;
 use capi::image::IMAGE_BYTES;
 use words::choice::both;
+use words::choice::one_of;
+
+// How many pieces a record has: a limit that is named is one more.
+fn pieces_of(named: bool) -> usize
+    ensures { λ r. ⌜ r ≡ piecesOf named ⌝ }
+{
+    if named { 6 } else { 5 }
+}
 
 // Whether the pieces have the lengths of those of a call.
-fn are_whole(body: &[u8]) -> bool
-    ensures { λ r. ⌜ r ≡ areWhole (now (body .entry)) ⌝ }
+fn are_whole(body: &[u8], named: bool) -> bool
+    ensures { λ r. ⌜ r ≡ areWhole named (now (body .entry)) ⌝ }
 {
     let is_call = both(
         length_of(body, 0) == WINDOWS_BYTES,
         length_of(body, 2) == IMAGE_BYTES,
     );
-    both(
-        is_call,
-        both(length_of(body, 1) == 8, length_of(body, 4) == 4),
-    )
+    let has_numbers = both(length_of(body, 1) == 8, length_of(body, 4) == 4);
+    let has_limit = one_of(!named, length_of(body, 5) == 4);
+    both(both(is_call, has_numbers), has_limit)
 }
 
-pub fn compare(body: &[u8]) -> Seen
-    ensures { λ r. ⌜ r ≡ freshSeen (now (body .entry)) ⌝ }
+// Makes the recorded call on these pieces.
+fn make_again(image: &mut [u8], windows: &[u8], body: &[u8], named: bool) -> u32
+    requires { ⌜ Laid (now body) (now image) (now windows) ⌝ }
+    ensures { λ r. ⌜ Freshens (now (image .exit)) r (freshMade named (now (body .entry))) ⌝ }
 {
-    if !are_whole(body) {
+    let memory = number_of(body, 1);
+    if named {
+        return fresh_with_call(image, windows, memory, word_of(body, 5));
+    }
+    fresh_call(image, windows, memory)
+}
+
+pub fn compare(body: &[u8], named: bool) -> Seen
+    ensures { λ r. ⌜ r ≡ freshSeen named (now (body .entry)) ⌝ }
+{
+    if !are_whole(body, named) {
         return Seen::Damaged;
     }
     let mut windows_room = [0u8; WINDOWS_BYTES];
     let mut image_room = [0u8; IMAGE_BYTES];
     let windows = laid(&mut windows_room, body, 0);
     let image = laid(&mut image_room, body, 2);
-    let status = fresh_call(image, windows, number_of(body, 1));
+    let status = make_again(image, windows, body, named);
     let is_answer = status as usize == number_of(body, 4);
-    let is_all = place_of(body, 5) == body.len();
+    let is_all = place_of(body, pieces_of(named)) == body.len();
     Seen::Fresh(both(is_same(image, body, 3), both(is_answer, is_all)))
 }

@@ -3,7 +3,7 @@
 ghost use mathlib.Core.Path.{_≡_};
 ghost use Prim.Native.Nat.{_≤_};
 ghost use lib.ListN.{length};
-ghost use Rattle.recorded.specs.Piece.{entryEnd, placeOf, entryOf, lengthOf, numberOf, pieceBytes, isPiece};
+ghost use Rattle.recorded.specs.Piece.{entryEnd, placeOf, entryOf, lengthOf, wordOf, numberOf, pieceBytes, isPiece};
 use job::parts::Part;
 use job::parts::bytes_of;
 use memory::peek::peek_byte;
@@ -43,6 +43,13 @@ pub fn length_of(body: &[u8], k: usize) -> usize
     ensures { λ r. ⌜ r ≡ lengthOf (now (body .entry)) k ⌝ }
 {
     peek_word(entry_of(body, k), 0) as usize
+}
+
+// The word that piece `k` is, of four bytes.
+pub fn word_of(body: &[u8], k: usize) -> u32
+    ensures { λ r. ⌜ r ≡ wordOf (now (body .entry)) k ⌝ }
+{
+    peek_word(entry_of(body, k), 8)
 }
 
 // The number that piece `k` is, of at most eight bytes.

@@ -1,1 +1,2 @@
 pub mod Seeks
+pub mod Limits

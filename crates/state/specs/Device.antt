@@ -17,21 +17,26 @@ abbrev pub freshRing : Window → Ring
 freshRing window = record { window = window; cursor = 0; frame = Unset }
 
 -- a device of these parts
-abbrev pub deviceOf : List Ring → List ℕ → ℕ → Device
-deviceOf rings slots marker = record { rings = rings; slots = slots; marker = marker }
+abbrev pub deviceOf : List Ring → List ℕ → ℕ → ℕ → Device
+deviceOf rings slots marker limit = record { rings = rings; slots = slots; marker = marker; limit = limit }
 
 -- a device has four rings and 64 slots
 pub record Shaped (d : Device) : Type 0 where
   pub rings : length (d .rings) ≡ 4
   pub slots : length (d .slots) ≡ 64
 
--- a fresh device: all 64 slots 0, the marker 0
-unfoldable pub freshDevice : Window → Window → Window → Window → Device
-freshDevice w0 w1 w2 w3 = deviceOf (freshRing w0 ∷ freshRing w1 ∷ freshRing w2 ∷ freshRing w3 ∷ []) (replicate 64 0) 0
+-- the limit, the steps that a thread of a kernel may take, where none is named
+abbrev pub defaultLimit : ℕ
+defaultLimit = 16384
 
--- the steps that a thread of a kernel may take: 14 if it already took 4,096
-unfoldable pub limitOf : Device → ℕ
-limitOf d = 4096
+-- a fresh device: all 64 slots 0, the marker 0
+unfoldable pub freshDevice : Window → Window → Window → Window → ℕ → Device
+freshDevice w0 w1 w2 w3 limit =
+    deviceOf (freshRing w0 ∷ freshRing w1 ∷ freshRing w2 ∷ freshRing w3 ∷ []) (replicate 64 0) 0 limit
+
+-- a fresh device of four empty windows at 0, no limit named
+unfoldable pub emptyDevice : Device
+emptyDevice = freshDevice emptyWindow emptyWindow emptyWindow emptyWindow defaultLimit
 
 -- ring q
 unfoldable pub ringOf : Device → ℕ → Ring
@@ -45,18 +50,19 @@ slotOf d n = getD (d .slots) n 0
 unfoldable pub SlotsFit : Device → Type 0
 SlotsFit d = (n : ℕ) → slotOf d n < 2 ^ 32
 
--- what every device has by its type: four rings, 64 slots, and 32-bit numbers in the slots and the marker
+-- what every device has by its type: four rings, 64 slots, and 32-bit numbers in the slots, the marker and the limit
 pub record ByType (d : Device) : Type 0 where
   pub shaped : Shaped d
   pub slots-fit : SlotsFit d
   pub marker-fits : d .marker < 2 ^ 32
+  pub limit-fits : d .limit < 2 ^ 32
 
 -- the device with one ring, the slots or the marker changed
 unfoldable pub withRing : Device → ℕ → Ring → Device
-withRing d q ring = deviceOf (set (d .rings) q ring) (d .slots) (d .marker)
+withRing d q ring = deviceOf (set (d .rings) q ring) (d .slots) (d .marker) (d .limit)
 
 unfoldable pub withSlots : Device → List ℕ → Device
-withSlots d slots = deviceOf (d .rings) slots (d .marker)
+withSlots d slots = deviceOf (d .rings) slots (d .marker) (d .limit)
 
 unfoldable pub withMarker : Device → ℕ → Device
-withMarker d marker = deviceOf (d .rings) (d .slots) marker
+withMarker d marker = deviceOf (d .rings) (d .slots) marker (d .limit)

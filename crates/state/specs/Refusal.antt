@@ -41,9 +41,15 @@ windowsFit d memory =
 unfoldable pub ringSound : Ring → Bool
 ringSound r = leb (r .cursor) 65536 && isDone (heldFault (r .frame) (r .window .length))
 
--- not 102: the marker is at most 3, and each ring is sound
+-- the limit is 1 to 65,536
+unfoldable pub limitFits : ℕ → Bool
+limitFits limit = leb 1 limit && leb limit 65536
+
+-- not 102: the marker is at most 3, the limit fits, and each ring is sound
 unfoldable pub stateSound : Device → Bool
-stateSound d = leb (d .marker) 3 && (ringSound (ringOf d 0) && ringSound (ringOf d 1) && ringSound (ringOf d 2) && ringSound (ringOf d 3))
+stateSound d =
+    (leb (d .marker) 3 && limitFits (d .limit))
+    && (ringSound (ringOf d 0) && ringSound (ringOf d 1) && ringSound (ringOf d 2) && ringSound (ringOf d 3))
 
 -- a ring's bytes are not too many, and not fewer than its cursor
 unfoldable pub ringFits : Ring → ℕ → Bool

@@ -1,11 +1,11 @@
 // The device's state.
 ghost use mathlib.Core.Path.{_≡_};
 ghost use Prim.Native.Nat.{_<_};
-ghost use Rattle.state.specs.Device.{limitOf, deviceOf, ByType, freshRing, freshDevice, ringOf, slotOf, withRing, withSlots, withMarker};
+ghost use Rattle.state.specs.Device.{defaultLimit, deviceOf, ByType, freshRing, freshDevice, emptyDevice, ringOf, slotOf, withRing, withSlots, withMarker};
 use command::frame::Frame;
 
-// The steps that a thread may take.
-const STEP_LIMIT: u32 = 4096;
+// The limit where none is named.
+pub const DEFAULT_LIMIT: u32 = 16384;
 
 // A ring's part of the memory.
 pub struct Window {
@@ -23,6 +23,8 @@ pub struct Device {
     pub rings: [Ring; 4],
     pub slots: [u32; 64],
     pub marker: u32,
+    // The steps that a thread of a kernel may take.
+    pub limit: u32,
 }
 
 fn fresh_ring(window: Window) -> Ring
@@ -37,13 +39,14 @@ fn fresh_ring(window: Window) -> Ring
 
 impl Device {
     // The one place where a device is made; elsewhere a copy is changed field by field.
-    pub fn of(rings: [Ring; 4], slots: [u32; 64], marker: u32) -> Self
-        ensures { λ r. ⌜ r ≡ deviceOf rings slots marker ⌝ }
+    pub fn of(rings: [Ring; 4], slots: [u32; 64], marker: u32, limit: u32) -> Self
+        ensures { λ r. ⌜ r ≡ deviceOf rings slots marker limit ⌝ }
     {
         Device {
             rings,
             slots,
             marker,
+            limit,
         }
     }
 
@@ -54,8 +57,8 @@ impl Device {
         self
     }
 
-    pub fn fresh(w0: Window, w1: Window, w2: Window, w3: Window) -> Self
-        ensures { λ r. ⌜ r ≡ freshDevice w0 w1 w2 w3 ⌝ }
+    pub fn fresh(w0: Window, w1: Window, w2: Window, w3: Window, limit: u32) -> Self
+        ensures { λ r. ⌜ r ≡ freshDevice w0 w1 w2 w3 limit ⌝ }
     {
         let rings = [
             fresh_ring(w0),
@@ -63,14 +66,18 @@ impl Device {
             fresh_ring(w2),
             fresh_ring(w3),
         ];
-        Device::of(rings, [0; 64], 0)
+        Device::of(rings, [0; 64], 0, limit)
     }
 
-    // The steps that a thread of a kernel may take.
-    pub fn limit(self) -> u32
-        ensures { λ r. ⌜ r ≡ limitOf self ⌝ }
+    // What a refused making hands out.
+    pub fn empty() -> Self
+        ensures { λ r. ⌜ r ≡ emptyDevice ⌝ }
     {
-        STEP_LIMIT
+        let window = Window {
+            start: 0,
+            length: 0,
+        };
+        Device::fresh(window, window, window, window, DEFAULT_LIMIT)
     }
 
     pub fn ring(self, q: u32) -> Ring

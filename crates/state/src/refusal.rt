@@ -1,7 +1,7 @@
 // Whole calls that are refused, in their order.
 ghost use mathlib.Core.Path.{_≡_};
 ghost use mathlib.Core.Bool.{_&&_};
-ghost use Rattle.state.specs.Refusal.{refusalNumber, windowFits, memoryFits, ringSound, stateSound, ringFits, ringsFit, windowsFit, verdictOf};
+ghost use Rattle.state.specs.Refusal.{refusalNumber, windowFits, memoryFits, ringSound, limitFits, stateSound, ringFits, ringsFit, windowsFit, verdictOf};
 use crate::device::Device;
 use crate::device::Ring;
 use crate::device::Window;
@@ -13,7 +13,7 @@ use words::choice::both;
 pub enum Refusal {
     // 101: memory too long, or a window outside it or not in multiples of 4.
     Memory,
-    // 102: marker above 3, cursor above 65,536, or a held frame that SET_FB would refuse.
+    // 102: marker above 3, limit outside 1 to 65,536, cursor above 65,536, or a held frame that SET_FB would refuse.
     State,
     // 103: a ring too long or shorter than its cursor.
     Rings,
@@ -33,6 +33,10 @@ pub const MOST_MEMORY: usize = 1048576;
 pub const MOST_RING: usize = 65536;
 
 pub const LEAST_PIPE: usize = 1020;
+
+pub const LEAST_LIMIT: u32 = 1;
+
+pub const MOST_LIMIT: u32 = 65536;
 
 pub fn refusal_number(refusal: Refusal) -> u32
     ensures { λ r. ⌜ r ≡ refusalNumber refusal ⌝ }
@@ -85,6 +89,12 @@ fn ring_sound(ring: Ring) -> bool
     )
 }
 
+pub fn limit_fits(limit: u32) -> bool
+    ensures { λ r. ⌜ r ≡ limitFits limit ⌝ }
+{
+    both(LEAST_LIMIT <= limit, limit <= MOST_LIMIT)
+}
+
 fn state_sound(d: Device) -> bool
     ensures { λ r. ⌜ r ≡ stateSound d ⌝ }
 {
@@ -94,7 +104,7 @@ fn state_sound(d: Device) -> bool
         ring_sound(d.ring(2)),
         ring_sound(d.ring(3)),
     );
-    both(d.marker <= 3, rings)
+    both(both(d.marker <= 3, limit_fits(d.limit)), rings)
 }
 
 fn ring_fits(ring: Ring, length: usize) -> bool

@@ -31,7 +31,8 @@ uint32_t vector(struct maker *m);
 int32_t immediate(struct maker *m);
 /* What a shift by a register has an edge at. */
 uint32_t shift_amount(struct maker *m);
-/* Any word into a register. */
+/* Any word into a register, by so many words at most. */
+enum { CONSTANT_WORDS_MOST = 2 };
 void emit_constant(struct maker *m, uint32_t rd, uint32_t value);
 
 /* ---- rows.c: one instruction ---- */

@@ -47,7 +47,7 @@ static void make_noise(struct maker *m)
 /* What the last step is. */
 static void emit_exact_end(struct maker *m)
 {
-    switch (below(m->c, 8)) {
+    switch (below(m->c, 10)) {
     case 0:
         emit(m, near_word(m->c));
         break;
@@ -69,29 +69,34 @@ static void emit_exact_end(struct maker *m)
     }
 }
 
-/* A stop or an end that is step `steps`, counted from 1. */
-static void make_exact(struct maker *m, uint32_t steps)
+/* A loop of so many rounds, `body` steps and two more each; gives the steps of
+ * all of it. */
+static uint32_t emit_rounds(struct maker *m, uint32_t rounds, uint32_t body)
 {
     static const int fillers[6] = {
         ROW_ADD, ROW_XORI, ROW_MEMBAR, ROW_VADD_I8, ROW_SUB, ROW_VMUL_I16
     };
-    uint32_t body = below(m->c, 7);
-    uint32_t rounds = (steps - 2) / (body + 2);
-    uint32_t rest = (steps - 2) % (body + 2);
+    uint32_t before = m->words;
 
-    emit(m, word_i(ROW_ADDI, S_COUNTER, 0, (int32_t)(rounds & 0x7FF)));
-    /* more rounds than an immediate holds: a body that is long enough */
-    if (rounds > 0x7FF) {
-        m->words = 0;
-        make_exact(m, steps);
-        return;
-    }
-    int32_t top = (int32_t)m->words;
+    emit_constant(m, S_COUNTER, rounds);
+    uint32_t top = m->words;
     for (uint32_t i = 0; i < body; i++)
         emit_row(m, fillers[below(m->c, 6)]);
     emit(m, word_i(ROW_ADDI, S_COUNTER, S_COUNTER, -1));
-    emit(m, word_b(ROW_BNE, S_COUNTER, 0, 4 * (top - (int32_t)m->words)));
-    for (uint32_t i = 0; i < rest; i++)
+    emit(m, word_b(ROW_BNE, S_COUNTER, 0, 4 * ((int32_t)top
+                                               - (int32_t)m->words)));
+    return top - before + rounds * (body + 2);
+}
+
+/* A stop or an end that is step `steps`, counted from 1. */
+static void make_exact(struct maker *m, uint32_t steps)
+{
+    uint32_t body = below(m->c, 7);
+    uint32_t left = steps - 1;
+
+    if (left >= CONSTANT_WORDS_MOST + body + 2)
+        left -= emit_rounds(m, (left - CONSTANT_WORDS_MOST) / (body + 2), body);
+    for (; left > 0; left--)
         emit(m, word_i(ROW_ADDI, 5, 5, 1));
     emit_exact_end(m);
 }
@@ -125,13 +130,19 @@ static void make_miss(struct maker *m)
     emit(m, table[ROW_WFI].match);
 }
 
-static uint32_t near_limit(struct chance *c)
+/* The limit's own step or the one after it; of limits that do not take long,
+ * others near them too. */
+static uint32_t near_limit(struct chance *c, uint32_t limit)
 {
-    return IND_STEP_LIMIT + (uint32_t)between(c, -2, 3);
+    int close = limit > IND_LIMIT_DEFAULT || mille(c, 400);
+    uint32_t steps = limit
+        + (uint32_t)(close ? between(c, 0, 1) : between(c, -2, 3));
+
+    return steps == 0 || steps > limit + 3 ? 1 : steps;
 }
 
 uint32_t make_kernel(struct chance *c, enum style style, uint32_t window_length,
-                     uint32_t *code)
+                     uint32_t limit, uint32_t *code)
 {
     struct maker m = {
         .c = c, .code = code, .words = 0, .window = window_length,
@@ -152,7 +163,7 @@ uint32_t make_kernel(struct chance *c, enum style style, uint32_t window_length,
         make_noise(&m);
         break;
     case STYLE_EXACT:
-        make_exact(&m, near_limit(c));
+        make_exact(&m, near_limit(c, limit));
         break;
     case STYLE_FAR:
         make_far(&m);

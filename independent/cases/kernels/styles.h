@@ -18,9 +18,9 @@ enum style {
     STYLE_MISS      /* one word that is not listed */
 };
 
-/* Writes one kernel, made for a window of this length, of KERNEL_WORDS_MOST
- * words at most; gives its words. */
+/* Writes one kernel, made for a window of this length and a limit of steps, of
+ * KERNEL_WORDS_MOST words at most; gives its words. */
 uint32_t make_kernel(struct chance *c, enum style style, uint32_t window_length,
-                     uint32_t *code);
+                     uint32_t limit, uint32_t *code);
 
 #endif

@@ -45,7 +45,8 @@ returns c =
           (rw (← c .before .before .before .before .ring3 .ensures) (record { at = c .before .before .before .of-every-ring3 .ensures .1 }))
           (rw (← c .before .before .ring4 .ensures) (record { at = c .before .of-every-ring4 .ensures .1 })))
           (slots-row _ (typed .slots-fit))
-          (typed .marker-fits)),
+          (typed .marker-fits)
+          (typed .limit-fits)),
     )
 
 pub of-every-device-spec : {M : Type 1} → statement M

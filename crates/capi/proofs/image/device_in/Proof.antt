@@ -22,12 +22,17 @@ slots-of-requires c κs = search needs
 word-in-requires : tie.Need-word-in-requires
 word-in-requires c κs = search needs
 
+word-in-requires-2 : tie.Need-word-in-requires-2
+word-in-requires-2 c κs = search needs
+
 of-requires : tie.Need-of-requires
 of-requires c κs = search needs
 
 returns : tie.Need-returns
 unfolding decode
-returns c = rw (c .of .ensures, c .before .before .before .before .before .before .ring-at .ensures, c .before .before .before .before .before .ring-at2 .ensures, c .before .before .before .before .ring-at3 .ensures, c .before .before .before .ring-at4 .ensures, c .before .before .slots-of .ensures, c .before .word-in .ensures)
+returns c =
+    let rings = c .before .before .before .before in
+    rw (c .of .ensures, rings .before .before .before .ring-at .ensures, rings .before .before .ring-at2 .ensures, rings .before .ring-at3 .ensures, rings .ring-at4 .ensures, c .before .before .before .slots-of .ensures, c .before .before .word-in .ensures, c .before .word-in2 .ensures)
 
 pub device-in-spec : {M : Type 1} → statement M
 device-in-spec =
@@ -39,5 +44,6 @@ device-in-spec =
     ring-at-requires-4
     slots-of-requires
     word-in-requires
+    word-in-requires-2
     of-requires
     returns)

@@ -37,9 +37,9 @@ returns c = let m = now (c .before .before .before .before .before .before .befo
     let full : 64 ≡ length (d .slots) = slice-aggregate-put-words (c .before .before .before .before .before .before .before .before) in
     let long = rings-length d in
     let next : markerAt ≡ 0 + length (ringsWords d ++ d .slots) = simp length-append (omega arith) in
-    let size : length (ringsWords d ++ d .slots ++ (d .marker ∷ [])) ≡ imageWords = simp length-append (omega arith) in
+    let size : length (ringsWords d ++ d .slots ++ (d .marker ∷ d .limit ∷ [])) ≡ imageWords = simp length-append (omega arith) in
     let first = words-then m 0 (ringsWords d) slotsAt (d .slots) (omega arith) (c .before .before .before .before .before .before .before .before .before .before .before .before .before .put-rings .ensures) (c .before .before .before .before .before .before .before .put-words .ensures) in
-    words-whole m (wordsOf d) (omega (arith, size, c .before .before .before .before .before .before .before .before .before .before .before .before .before .before .before .before .pre)) (words-then m 0 (ringsWords d ++ d .slots) markerAt (d .marker ∷ []) next first (c .before .before .put-words2 .ensures))
+    words-whole m (wordsOf d) (omega (arith, size, c .before .before .before .before .before .before .before .before .before .before .before .before .before .before .before .before .pre)) (words-then m 0 (ringsWords d ++ d .slots) markerAt (d .marker ∷ d .limit ∷ []) next first (c .before .before .put-words2 .ensures))
 
 pub put-device-spec : {M : Type 1} → statement M
 put-device-spec =

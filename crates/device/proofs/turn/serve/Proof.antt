@@ -24,9 +24,6 @@ slot-requires c κs = search needs
 is-full-requires : tie.Need-is-full-requires
 is-full-requires c κs = search needs
 
-limit-requires : tie.Need-limit-requires
-limit-requires c κs = search needs
-
 cast-start : tie.Need-cast-start
 cast-start c = search needs
 
@@ -43,21 +40,21 @@ part-perform-start : tie.Need-part-perform-start
 part-perform-start c = search needs
 
 part-perform-end : tie.Need-part-perform-end
-part-perform-end c = rw (c .before .before .before .before .before .before .before .before .ring .ensures) (c .before .before .before .before .before .before .before .before .before .before .before .before .before .pre .fits)
+part-perform-end c = rw (c .before .before .before .before .before .before .before .ring .ensures) (c .before .before .before .before .before .before .before .before .before .before .before .before .pre .fits)
 
 perform-requires : tie.Need-perform-requires
 perform-requires c κs =
-    let s = c .before .before .before .before .before .before .before .before .before .before .before .before .before .before .before in
+    let s = c .before .before .before .before .before .before .before .before .before .before .before .before .before .before in
     record {
-      payload = rw (c .before .before .before .before .before .before .before .before .command-at .ensures, c .before .before .before .before .before .before .before .before .before .before .ring .ensures) (payload-inside _ _ (s .pre .whole));
+      payload = rw (c .before .before .before .before .before .before .before .command-at .ensures, c .before .before .before .before .before .before .before .before .before .ring .ensures) (payload-inside _ _ (s .pre .whole));
       room = s .pre .room;
     }
 
 finish-requires : tie.Need-finish-requires
 finish-requires c κs =
-    let s = c .before .before .before .before .before .before .before .before .before .before .before .before .before .before .before .before .before .before .before .before in (
+    let s = c .before .before .before .before .before .before .before .before .before .before .before .before .before .before .before .before .before .before .before in (
       s .pre .number,
-      rw (c .before .before .before .before .before .before .before .before .before .before .before .before .before .command-at .ensures, c .before .before .before .before .before .before .before .before .before .before .before .before .before .before .before .ring .ensures)
+      rw (c .before .before .before .before .before .before .before .before .before .before .before .before .command-at .ensures, c .before .before .before .before .before .before .before .before .before .before .before .before .before .before .ring .ensures)
           (omega (arith, whole-inside _ _ (s .pre .whole), s .pre .short)),
     )
 
@@ -70,15 +67,15 @@ same-length-2 c = search needs
 returns : tie.Need-returns
 unfolding servedOf
 returns c =
-    let s = c .before .before .before .before .before .before .before .before .before .before .before .before .before .before .before .before .before .before .before .before .before in
-    let start = c .before .before .before .before .before .before .before .before .before .before .before .before .before .before .before .before .ring .result .window .start in
-    let n = c .before .before .before .before .before .before .before .before .before .before .before .before .before .before .before .before .ring .result .window .length in
+    let s = c .before .before .before .before .before .before .before .before .before .before .before .before .before .before .before .before .before .before .before .before in
+    let start = c .before .before .before .before .before .before .before .before .before .before .before .before .before .before .before .ring .result .window .start in
+    let n = c .before .before .before .before .before .before .before .before .before .before .before .before .before .before .before .ring .result .window .length in
     let m = now (s .args .mem) in
     let p = c .before .before .before .before .before .perform in
-    rw (← c .before .before .before .before .before .before .before .before .before .before .before .before .before .before .before .before .ring .ensures, ← c .before .before .before .before .before .before .before .before .before .before .before .before .before .before .command-at .ensures, ← c .before .before .before .before .before .before .before .before .before .before .before .before .before .slot .ensures, ← c .before .before .before .before .before .before .before .before .before .before .before .before .is-full .ensures, ← c .before .before .before .before .before .before .before .before .before .before .before .limit .ensures, ← lent-window start n m)
+    rw (← c .before .before .before .before .before .before .before .before .before .before .before .before .before .before .before .ring .ensures, ← c .before .before .before .before .before .before .before .before .before .before .before .before .before .command-at .ensures, ← c .before .before .before .before .before .before .before .before .before .before .before .before .slot .ensures, ← c .before .before .before .before .before .before .before .before .before .before .before .is-full .ensures, ← lent-window start n m)
     (record {
       answer = rw (c .finish .ensures, p .ensures .answer);
-      memory = rw (← p .ensures .window) (lent-back start n m (rw (c .before .before .before .before .before .before .before .before .before .before .before .before .before .before .before .before .ring .ensures) (s .pre .fits)) (p .last .1 .1 .1 .0) (p .kept .1 .1 .1 .0));
+      memory = rw (← p .ensures .window) (lent-back start n m (rw (c .before .before .before .before .before .before .before .before .before .before .before .before .before .before .before .ring .ensures) (s .pre .fits)) (p .last .1 .1 .1 .0) (p .kept .1 .1 .1 .0));
       pipe = p .ensures .pipe;
     })
 
@@ -91,7 +88,6 @@ serve-spec =
     command-at-requires
     slot-requires
     is-full-requires
-    limit-requires
     cast-start
     cast-end
     add-end

@@ -22,11 +22,26 @@ returns-2 : tie.Need-returns-2
 unfolding callSeen
 returns-2 c = rw (← c .before .before .before .peek-word .ensures, ne-eqb _ _ (c .before .before .if1 .left), eq-eqb _ _ (c .before .if2 .taken)) (c .compare2 .ensures)
 
+compare-requires-3 : tie.Need-compare-requires-3
+compare-requires-3 c κs = search needs
+
 returns-3 : tie.Need-returns-3
 unfolding callSeen
-returns-3 c = rw (← c .before .before .peek-word .ensures, ne-eqb _ _ (c .before .if1 .left), ne-eqb _ _ (c .if2 .left))
+returns-3 c = rw (← c .before .before .before .before .peek-word .ensures, ne-eqb _ _ (c .before .before .before .if1 .left), ne-eqb _ _ (c .before .before .if2 .left), eq-eqb _ _ (c .before .if3 .taken)) (c .compare3 .ensures)
+
+returns-4 : tie.Need-returns-4
+unfolding callSeen
+returns-4 c = rw (← c .before .before .before .peek-word .ensures, ne-eqb _ _ (c .before .before .if1 .left), ne-eqb _ _ (c .before .if2 .left), ne-eqb _ _ (c .if3 .left))
 
 pub compare-spec : {M : Type 1} → statement M
 compare-spec =
     tie.close
-    (tie.spec peek-word-requires compare-requires returns compare-requires-2 returns-2 returns-3)
+    (tie.spec
+    peek-word-requires
+    compare-requires
+    returns
+    compare-requires-2
+    returns-2
+    compare-requires-3
+    returns-3
+    returns-4)

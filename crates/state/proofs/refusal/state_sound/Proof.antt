@@ -31,12 +31,20 @@ ring-sound-requires-4 c κs = search needs
 all-four-requires : tie.Need-all-four-requires
 all-four-requires c κs = search needs
 
+limit-fits-requires : tie.Need-limit-fits-requires
+limit-fits-requires c κs = search needs
+
 both-requires : tie.Need-both-requires
 both-requires c κs = search needs
 
+both-requires-2 : tie.Need-both-requires-2
+both-requires-2 c κs = search needs
+
 returns : tie.Need-returns
 unfolding stateSound
-returns c = rw (c .both .ensures, c .before .before .all-four .ensures, c .before .before .before .before .before .before .before .before .before .ring-sound .ensures, c .before .before .before .before .before .before .before .before .before .before .ring .ensures, c .before .before .before .before .before .before .before .ring-sound2 .ensures, c .before .before .before .before .before .before .before .before .ring2 .ensures, c .before .before .before .before .before .ring-sound3 .ensures, c .before .before .before .before .before .before .ring3 .ensures, c .before .before .before .ring-sound4 .ensures, c .before .before .before .before .ring4 .ensures)
+returns c =
+    let rings = c .before .before .before .before in
+    rw (c .both2 .ensures, c .before .both .ensures, c .before .before .limit-fits .ensures, rings .all-four .ensures, rings .before .before .before .before .before .before .before .ring-sound .ensures, rings .before .before .before .before .before .before .before .before .ring .ensures, rings .before .before .before .before .before .ring-sound2 .ensures, rings .before .before .before .before .before .before .ring2 .ensures, rings .before .before .before .ring-sound3 .ensures, rings .before .before .before .before .ring3 .ensures, rings .before .ring-sound4 .ensures, rings .before .before .ring4 .ensures)
 
 pub state-sound-spec : {M : Type 1} → statement M
 state-sound-spec =
@@ -51,5 +59,7 @@ state-sound-spec =
     ring-requires-4
     ring-sound-requires-4
     all-four-requires
+    limit-fits-requires
     both-requires
+    both-requires-2
     returns)

@@ -18,6 +18,7 @@ returns c =
         shaped = record { rings = four; slots = search needs };
         slots-fit = λ n. let number : Fits w32 (getD (d .slots) n 0) = search needs in number .fits;
         marker-fits = search needs;
+        limit-fits = search needs;
       },
     )
 
