@@ -2,7 +2,7 @@
 -- Assumes nothing.
 use mathlib.Core.Path.{_≡_, refl, sym, ap, subst, _∙_}
 use mathlib.Core.Bool.{true}
-use Prim.Native.Nat.{ℕ, zero, suc, _+_, _≤_}
+use Prim.Native.Nat.{ℕ, _+_, _≤_}
 use native.Mathlib.Omega.{arith}
 use lib.Dec.{lit≤}
 use lib.ListN.{length, getD}
@@ -12,7 +12,7 @@ use Rattle.command.specs.Report.{wordsRead}
 use Rattle.work.proofs.Reports as work
 use Rattle.state.specs.declared.device.Device.{Device}
 use Rattle.device.specs.declared.turn.Report.{Report}
-use Rattle.state.specs.Device.{emptyWindow, freshDevice, emptyDevice, defaultLimit, ringOf}
+use Rattle.state.specs.Device.{emptyDevice, defaultLimit, ringOf}
 use Rattle.state.specs.Refusal.{limitFits}
 use Rattle.state.proofs.Limits.{limit-fits, limit-unfit}
 use Rattle.device.specs.Answer.{answerNumber, valuesOf}
@@ -104,17 +104,8 @@ turn-keeps d call = keeps d call
 by-default : limitFits defaultLimit ≡ true
 by-default = limit-fits defaultLimit (lit≤ tt) (lit≤ tt)
 
--- every window of the empty device is empty; past the fourth ring there is none
-empty-windows : (q : ℕ) → ringOf emptyDevice q .window ≡ emptyWindow
-unfolding emptyDevice freshDevice ringOf
-empty-windows zero = refl
-empty-windows (suc zero) = refl
-empty-windows (suc (suc zero)) = refl
-empty-windows (suc (suc (suc zero))) = refl
-empty-windows (suc (suc (suc (suc q)))) = refl
-
 pub fresh-makes : FreshMakes
-unfolding freshWith notMade emptyDevice freshDevice ringOf
+unfolding freshWith notMade emptyDevice
 fresh-makes = record {
   named = λ memory w0 w1 w2 w3 limit. record {
     made = λ fits low high. record { device = rw (fits, limit-fits limit low high); answer = rw (fits, limit-fits limit low high) };
@@ -125,5 +116,5 @@ fresh-makes = record {
     made = λ fits. record { device = rw (fits, by-default); answer = rw (fits, by-default) };
     refused = λ unfit. record { device = rw unfit; answer = rw unfit };
   };
-  empty = record { windows = empty-windows; limit = refl };
+  empty = refl;
 }

@@ -3,7 +3,6 @@
 use mathlib.Core.Path.{_≡_, refl}
 use Prim.Native.Nat.{ℕ, _≤_}
 use native.Mathlib.Omega.{arith}
-use lib.Dec.{lit≤}
 use borrow.Author.Tests.{le-leb}
 use lib.ListN.{replicate}
 use Rattle.words.specs.Lanes.{lanesOf, lanewise}
@@ -74,7 +73,6 @@ worked = (
     p9 = (
       λ limit groups threads window hg ht. let run = kernel.p9 limit groups threads window hg ht in record { outcome = rw run; kept = rw run },
       spins,
-      spins defaultLimit (lit≤ tt) (lit≤ tt),
     );
     p10 = vadd;
     p11 = (record { served = refl; ring = refl }, record { served = refl; ring = refl }, record { served = refl; ring = refl }, record { served = refl; ring = refl });

@@ -78,12 +78,8 @@ pub record Making (memory : ℕ) (w0 w1 w2 w3 : Window) : Type 0 where
   pub made : memoryFits memory w0 w1 w2 w3 ≡ true → Gives (freshOf memory w0 w1 w2 w3) (freshDevice w0 w1 w2 w3 16384) 0
   pub refused : memoryFits memory w0 w1 w2 w3 ≡ false → Gives (freshOf memory w0 w1 w2 w3) emptyDevice 101
 
--- the empty device: four empty windows at 0, and the limit 16,384
-pub record Empty (d : Device) : Type 0 where
-  pub windows : (q : ℕ) → ringOf d q .window ≡ emptyWindow
-  pub limit : d .limit ≡ 16384
-
 pub record FreshMakes : Type 0 where
   pub named : (memory : ℕ) (w0 w1 w2 w3 : Window) (limit : ℕ) → MakingWith memory w0 w1 w2 w3 limit
   pub unnamed : (memory : ℕ) (w0 w1 w2 w3 : Window) → Making memory w0 w1 w2 w3
-  pub empty : Empty emptyDevice
+  -- the empty device is fresh, with four empty windows at 0 and the limit 16,384, whatever limit was named
+  pub empty : emptyDevice ≡ freshDevice emptyWindow emptyWindow emptyWindow emptyWindow 16384

@@ -39,7 +39,7 @@ framedUnder limit n m =
     ∷ freshRing emptyWindow ∷ freshRing emptyWindow ∷ freshRing emptyWindow ∷ [])
     (replicate 64 0) m limit
 
--- under the limit of a device that names none
+-- under the limit where none is named
 abbrev pub framed : ℕ → ℕ → Device
 framed = framedUnder defaultLimit
 
@@ -126,7 +126,6 @@ pub record Table : Type 0 where
   pub p9 : ((limit groups threads : ℕ) (window : List ℕ) → 1 ≤ groups → 1 ≤ threads
       → EndsWith 14 window (dispatchOf limit (packOf 0x0000000E) 0 groups threads window))
       × ((limit : ℕ) → 1 ≤ limit → limit ≤ 65536 → OutcomeOn0 14 (turnOf (framedUnder limit 64 0) (oneThread 0x0000000E)))
-      × OutcomeOn0 14 (turnOf (framed 64 0) (oneThread 0x0000000E))
   -- VADD.I8 of 010000FF and 01000001: 02000000; as I16: 02000100 (0020A1AF and 002091AF, v1 and v2 to v3)
   pub p10 : (vector 3 (afterWord 0x0020A1AF (holding 0x010000FF 0x01000001)) ≡ broadcast 0x02000000)
       × (vector 3 (afterWord 0x002091AF (holding 0x010000FF 0x01000001)) ≡ broadcast 0x02000100)
