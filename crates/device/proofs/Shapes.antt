@@ -1,17 +1,16 @@
 -- A turn leaves four rings, 64 slots and the limit, and a fresh device has its rings and slots; an emit leaves numbers that fit.
 -- Assumes nothing.
 use mathlib.Core.Path.{_≡_, refl, ap, _∙_}
-use mathlib.Core.Bool.{Bool, true, false, cond}
+use mathlib.Core.Bool.{Bool, true, false}
 use mathlib.Core.List.{List, [], _∷_}
 use Prim.Native.Nat.{ℕ, zero, suc, _^_, _<_}
 use native.Mathlib.Omega.{arith}
 use lib.ListN.{getD, set, length-set}
+use Rattle.words.proofs.Choices.{cond-has}
 use Rattle.command.specs.declared.header.Command.{Command}
 use Rattle.work.specs.declared.work.Performed.{Performed}
 use Rattle.state.specs.declared.device.Device.{Device}
 use Rattle.state.specs.declared.device.Window.{Window}
-use Rattle.state.specs.declared.refusal.Refusal.the-variants.{Memory, State}
-use Rattle.device.specs.declared.fresh.Making.the-variants.{Made}
 use Rattle.device.specs.declared.fresh.Fresh.{Fresh}
 use Rattle.state.specs.Slots.{emitted, emittedIn}
 use Rattle.state.specs.Device.{Shaped, SlotsFit, slotOf, emptyWindow, withRing, withSlots, withMarker, defaultLimit, freshDevice, emptyDevice}
@@ -74,12 +73,10 @@ empty-shaped = fresh-shaped emptyWindow emptyWindow emptyWindow emptyWindow defa
 pub made-each : (P : Device → Type 0) (memory : ℕ) (w0 w1 w2 w3 : Window) (limit : ℕ) → P emptyDevice
     → P (freshDevice w0 w1 w2 w3 limit) → P (freshWith memory w0 w1 w2 w3 limit .device)
 unfolding freshWith notMade
-made-each P memory w0 w1 w2 w3 limit empty fresh = go (memoryFits memory w0 w1 w2 w3) (limitFits limit)
-  where
-    go : (m l : Bool) → P (cond {A = Fresh} m (cond {A = Fresh} l (record { device = freshDevice w0 w1 w2 w3 limit; answer = Made }) (notMade State)) (notMade Memory) .device)
-    go true true = fresh
-    go true false = empty
-    go false l = empty
+made-each P memory w0 w1 w2 w3 limit empty fresh =
+    let Has : Fresh → Type 0 = λ made. P (made .device) in
+    cond-has Has (memoryFits memory w0 w1 w2 w3) (λ fits. cond-has Has (limitFits limit) (λ limited. fresh) (λ unfit. empty))
+    (λ unfit. empty)
 
 pub made-shaped : (memory : ℕ) (w0 w1 w2 w3 : Window) (limit : ℕ) → Shaped (freshWith memory w0 w1 w2 w3 limit .device)
 made-shaped memory w0 w1 w2 w3 limit = made-each Shaped memory w0 w1 w2 w3 limit empty-shaped (fresh-shaped w0 w1 w2 w3 limit)
