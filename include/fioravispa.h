@@ -59,8 +59,8 @@ enum {
 
     /* The whole call is refused, for the first of these that applies. After fv_turn
      * image, memory and pipe are as they were. fv_fresh can give 101 alone, and
-     * fv_fresh_with also 102 for its limit; either writes a fresh device of four
-     * empty windows and FV_LIMIT_DEFAULT. */
+     * fv_fresh_with also 102 for its limit; with either number they write a fresh
+     * device of four empty windows at 0 whose limit is FV_LIMIT_DEFAULT. */
     FV_REFUSED_MEMORY = 101,      /* memory too long, or a window outside it or not in multiples of 4 */
     FV_REFUSED_STATE = 102,       /* marker above 3, limit outside FV_LIMIT_LEAST to FV_LIMIT_MOST, cursor above
                                    * FV_RING_MOST, or a held frame SET_FB would refuse */
@@ -140,9 +140,10 @@ uint32_t fv_fresh(uint8_t *image, size_t image_length, const uint8_t *windows, s
 
 /* The same with a limit that is named.
  *   limit          the steps that a thread of a kernel may take, FV_LIMIT_LEAST to FV_LIMIT_MOST
- * A device keeps it. Gives FV_REFUSED_STATE too, for a limit outside, after
- * FV_REFUSED_MEMORY; with either comes the device that fv_fresh gives with
- * FV_REFUSED_MEMORY, whatever limit was named. */
+ * The device keeps it: no turn changes it. Gives what fv_fresh gives; and, where that
+ * would be FV_MADE, FV_REFUSED_STATE for a limit outside these. With either refusal
+ * comes the device that fv_fresh gives with FV_REFUSED_MEMORY, whatever limit was
+ * named. */
 uint32_t fv_fresh_with(uint8_t *image, size_t image_length, const uint8_t *windows, size_t windows_length,
                        uint64_t memory_length, uint32_t limit);
 

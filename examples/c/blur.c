@@ -1,4 +1,4 @@
-/* A limit of steps that is named: one thread blurs a row of 500 pixels, ten steps for each. */
+/* Limits of steps, named and not: one thread blurs a row of 500 pixels, ten steps for each. */
 #include <stdio.h>
 #include "fioravispa.h"
 #include "fioravispa_code.h"
@@ -54,7 +54,7 @@ static uint32_t make(const uint8_t *windows, uint32_t limit)
     return fv_fresh_with(image, sizeof image, windows, FV_WINDOWS_BYTES, sizeof memory, limit);
 }
 
-/* Blurs on a fresh device of this limit; gives 1 if this becomes of it. */
+/* Blurs on a fresh device of this limit; gives 1 if it ends with this outcome and so many blurred pixels. */
 static int blurs(uint32_t limit, uint32_t outcome, uint32_t count)
 {
     const struct fv_window all[FV_RINGS] = {{0, sizeof memory}};
@@ -82,6 +82,6 @@ int main(void)
 
     right &= blurs(STEPS, FV_OUTCOME_DONE, INNER);            /* the WFI is the limit's step */
     right &= blurs(STEPS - 1, FV_OUTCOME_STEPS, INNER);       /* one fewer: stopped, what was stored stays */
-    right &= blurs(4096, FV_OUTCOME_STEPS, (4096 - 2) / 10);
+    right &= blurs(4096, FV_OUTCOME_STEPS, (4096 - 2) / 10);  /* two steps before the first pixel, ten for each */
     return right ? 0 : 1;
 }

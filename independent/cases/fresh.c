@@ -65,7 +65,7 @@ static void any_window(struct chance *c, uint64_t span, uint32_t pair[2])
         miss_window(c, (uint32_t)span, pair);
 }
 
-/* A call, named a limit or not. */
+/* A making, with a limit named or with none. */
 static void start_making(struct call *call, struct chance *c)
 {
     if (mille(c, 400)) {

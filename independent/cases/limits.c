@@ -1,13 +1,9 @@
 #include "cases/limits.h"
 
-#include "device/device.h"
-
-enum { QUARTER = IND_LIMIT_DEFAULT / 4 }; /* usual, and does not take long */
-
 uint32_t edged_limit(struct chance *c)
 {
     static const uint32_t limits[8] = {
-        IND_LIMIT_LEAST, IND_LIMIT_LEAST + 1, QUARTER,
+        IND_LIMIT_LEAST, IND_LIMIT_LEAST + 1, LIMIT_QUARTER,
         IND_LIMIT_DEFAULT - 1, IND_LIMIT_DEFAULT, IND_LIMIT_DEFAULT + 1,
         IND_LIMIT_MOST - 1, IND_LIMIT_MOST
     };
@@ -27,7 +23,7 @@ uint32_t usual_limit(struct chance *c)
     if (x < 540)
         return 200 + below(c, 2000);
     if (x < 740)
-        return QUARTER;
+        return LIMIT_QUARTER;
     return x < 970 ? IND_LIMIT_DEFAULT : edged_limit(c);
 }
 
@@ -42,7 +38,7 @@ uint32_t exact_limit(struct chance *c)
     if (x < 850)
         return 41 + below(c, 1000);
     if (x < 920)
-        return QUARTER + (uint32_t)between(c, -1, 1);
+        return LIMIT_QUARTER + (uint32_t)between(c, -1, 1);
     return x < 955 ? IND_LIMIT_DEFAULT
                    : IND_LIMIT_MOST - (uint32_t)mille(c, 300);
 }

@@ -4,14 +4,17 @@
 #define LIMITS_H
 
 #include "cases/kernels/chance.h"
+#include "device/device.h"
+
+enum { LIMIT_QUARTER = IND_LIMIT_DEFAULT / 4 }; /* usual, and soon used up */
 
 /* One that a device may have, mostly at an edge. */
 uint32_t edged_limit(struct chance *c);
-/* The same for any kernel: few are short, so that most kernels end. */
+/* One for any kernel: few are short, so that most kernels end. */
 uint32_t usual_limit(struct chance *c);
-/* The same for a kernel that is made to use up its steps: most are short. */
+/* One for a kernel that is made to use up its steps: most are short. */
 uint32_t exact_limit(struct chance *c);
-/* One that no device has, or just misses to be one. */
+/* Mostly one that no device has; else any word at an edge. */
 uint32_t outside_limit(struct chance *c);
 
 #endif

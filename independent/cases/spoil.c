@@ -164,7 +164,7 @@ static void spoil_pack(struct call *call, struct chance *c)
     static uint8_t bytes[PACK_MOST];
     struct piece *pack = &call->pieces[PIECE_PACK];
 
-    /* the long ones are zeros, and better left alone */
+    /* most long ones are zeros, and better left alone */
     if (pack->length <= 4096 && mille(c, 400)) {
         piece_end(pack, damage_pack(c, pack->bytes, (uint32_t)pack->length));
         return;

@@ -5,6 +5,7 @@
 #include <string.h>
 
 #include "cases/kernels/table.h"
+#include "cases/limits.h"
 #include "cases/sights.h"
 #include "device/image.h"
 
@@ -16,7 +17,7 @@ enum {
 
 /* Limits of steps are counted by spans, each up to one of these. */
 static const uint32_t limits[LIMITS] = {
-    IND_LIMIT_LEAST, 2, IND_LIMIT_DEFAULT / 4 - 1, IND_LIMIT_DEFAULT / 4,
+    IND_LIMIT_LEAST, IND_LIMIT_LEAST + 1, LIMIT_QUARTER - 1, LIMIT_QUARTER,
     IND_LIMIT_DEFAULT - 1, IND_LIMIT_DEFAULT, IND_LIMIT_MOST - 2,
     IND_LIMIT_MOST - 1, IND_LIMIT_MOST
 };

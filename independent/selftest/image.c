@@ -99,14 +99,14 @@ static void limit_in_the_image(void)
     put_word(empty + LIMIT, 16384);
     memcpy(made, empty, sizeof made);
     put_word(made + 4, 64);
-    for (uint32_t i = 0; i < sizeof limits / 4; i++) {
+    for (uint32_t i = 0; i < COUNT(limits); i++) {
         put_word(made + LIMIT, limits[i]);
         CHECK_EQ(make_with(image, 64, limits[i]), 0);
         CHECK(memcmp(image, made, sizeof image) == 0);
         CHECK_EQ(make_with(image, 63, limits[i]), 101);
         CHECK(memcmp(image, empty, sizeof image) == 0);
     }
-    for (uint32_t i = 0; i < sizeof outside / 4; i++) {
+    for (uint32_t i = 0; i < COUNT(outside); i++) {
         CHECK_EQ(make_with(image, 64, outside[i]), 102);
         CHECK(memcmp(image, empty, sizeof image) == 0);
         CHECK_EQ(make_with(image, 63, outside[i]), 101);
@@ -122,7 +122,7 @@ static void limit_through_a_turn(void)
     uint8_t image[IND_IMAGE_BYTES], kept[IND_IMAGE_BYTES];
     uint8_t report[IND_REPORT_BYTES];
 
-    for (uint32_t i = 0; i < sizeof limits / 4; i++) {
+    for (uint32_t i = 0; i < COUNT(limits); i++) {
         int fits = i != 0 && i != 4;
         fresh_image(image);
         put_word(image + LIMIT, limits[i]);

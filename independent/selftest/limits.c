@@ -8,16 +8,16 @@ enum { DISPATCH = 0x20, BARRIER = 0x22, KERNEL_MOST = 8 };
 static const uint32_t inside[] = {1, 2, 3, 4096, 16384, 65535, 65536};
 static const uint32_t outside[] = {0, 65537, 65538, 0x80000000, 0xFFFFFFFF};
 
-#define COUNT(list) (sizeof list / sizeof list[0])
+/* Four of 16 bytes, of which a memory of 15 holds none. */
+static const uint32_t windows[IND_RINGS][2] = {
+    {0, 16}, {0, 16}, {0, 16}, {0, 16}
+};
 
 /* ---- the making ---- */
 
-/* Four windows of 16 bytes, of which a memory of 15 holds none. */
 static uint32_t make_with(struct ind_device *device, uint64_t memory_len,
                           uint32_t limit)
 {
-    const uint32_t windows[IND_RINGS][2] = {{0, 16}, {0, 16}, {0, 16}, {0, 16}};
-
     memset(device, 0xEE, sizeof *device);
     return ind_fresh_with(device, memory_len, windows, limit);
 }
@@ -34,7 +34,6 @@ static void refused_making(uint64_t memory_len, uint32_t limit, uint32_t want)
 
 static void making(void)
 {
-    const uint32_t windows[IND_RINGS][2] = {{0, 16}, {0, 16}, {0, 16}, {0, 16}};
     struct ind_device device, unnamed;
 
     CHECK_EQ(ind_fresh(&unnamed, 16, windows), 0);

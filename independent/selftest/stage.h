@@ -6,6 +6,8 @@
 #include "cases/words.h"
 #include "device/device.h"
 
+#define COUNT(list) (sizeof list / sizeof list[0])
+
 #define CHECK_EQ(got, want) check_equal((got), (want), #got, __FILE__, __LINE__)
 #define CHECK(holds) CHECK_EQ((holds) ? 1 : 0, 1)
 

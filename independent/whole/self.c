@@ -140,7 +140,7 @@ uint32_t fv_fresh(uint8_t *device, size_t device_len, const uint8_t *windows,
                                    memory_len);
     if (MUTANT == 17 && answer == IND_REFUSED_MEMORY) /* image not written */
         memcpy(device, before, sizeof before);
-    if (MUTANT == 25 && answer == 0) /* where none is named */
+    if (MUTANT == 25 && answer == 0) /* 4,096 where none is named */
         ind_put(device + LIMIT, WORD, 4096);
     return answer;
 }
@@ -159,11 +159,11 @@ static uint32_t err_limited(uint8_t *device, uint32_t limit, uint32_t answer)
     case 28: /* 102 before 101 */
         return answer == IND_REFUSED_MEMORY && outside ? IND_REFUSED_STATE
                                                        : answer;
-    case 29: /* the named limit in the empty device, with 101 and with 102 */
+    case 29: /* the named limit in the empty device, with 101 */
         if (answer == IND_REFUSED_MEMORY)
             ind_put(device + LIMIT, WORD, limit);
         break;
-    case 30:
+    case 30: /* the same with 102 */
         if (answer == IND_REFUSED_STATE)
             ind_put(device + LIMIT, WORD, limit);
         break;

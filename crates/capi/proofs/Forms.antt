@@ -24,6 +24,7 @@ use Rattle.state.specs.declared.device.Device.{Device}
 use Rattle.state.specs.Device.{Shaped, SlotsFit, emptyWindow, defaultLimit, freshDevice, emptyDevice, ringOf, slotOf, withRing, withMarker}
 use Rattle.device.specs.Turn.{ringIn, unchanged, ringAfter, deviceAfter, finished, servedOf}
 use Rattle.state.proofs.Seeks.{next-below}
+use Rattle.state.proofs.Limits.{limit-within}
 use Rattle.device.proofs.Verdicts.{each-of-four}
 use Rattle.device.proofs.Turns.{turn-cases, picked-servable}
 use Rattle.command.proofs.Sizes.{whole-inside}
@@ -176,8 +177,9 @@ empty-formed = fresh-formed emptyWindow emptyWindow emptyWindow emptyWindow defa
 
 pub fresh-forms : FreshForms
 unfolding windowAt
-fresh-forms windows memory limit bytes small =
-    made-each Formed memory _ _ _ _ limit empty-formed (fresh-formed _ _ _ _ limit (at 0) (at 2) (at 4) (at 6) small)
+fresh-forms windows memory limit bytes =
+    made-each Formed memory _ _ _ _ limit empty-formed
+    (λ fits. fresh-formed _ _ _ _ limit (at 0) (at 2) (at 4) (at 6) (omega (arith, limit-within limit fits .1)))
   where
     at : (k : ℕ) → WindowFits (windowAt windows k)
     at k = (word-fits windows _ bytes, word-fits windows _ bytes)

@@ -1,5 +1,5 @@
 -- A call over a device's image is the device's turn.
-use Prim.Native.Nat.{ℕ, _^_, _<_}
+use Prim.Native.Nat.{ℕ}
 use mathlib.Core.Path.{_≡_}
 use mathlib.Core.List.{List}
 use lib.ListN.{length}
@@ -29,9 +29,9 @@ FollowsFrom d = (report : List ℕ) (call : Call) → length report ≡ reportLe
 abbrev pub TurnFollows : Type 0
 TurnFollows = (d : Device) → Formed d → FollowsFrom d
 
--- a fresh device is formed, if the windows lent are of bytes and the limit named is of 32 bits
+-- a fresh device is formed, if the windows lent are of bytes, whatever limit is named
 abbrev pub FreshForms : Type 0
-FreshForms = (windows : List ℕ) (memory limit : ℕ) → OfBytes windows → limit < 2 ^ 32 → Formed (freshFor windows memory limit .device)
+FreshForms = (windows : List ℕ) (memory limit : ℕ) → OfBytes windows → Formed (freshFor windows memory limit .device)
 
 -- the rings that a call lends are of bytes
 abbrev pub RingsOfBytes : Call → Type 0

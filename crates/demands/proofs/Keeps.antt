@@ -1,7 +1,6 @@
 -- What a turn leaves as it was.
 -- Assumes nothing.
 use mathlib.Core.Path.{_≡_, refl, sym, ap, subst, _∙_}
-use mathlib.Core.Bool.{true}
 use Prim.Native.Nat.{ℕ, _+_, _≤_}
 use native.Mathlib.Omega.{arith}
 use lib.Dec.{lit≤}
@@ -10,16 +9,16 @@ use Rattle.memory.proofs.Window.{window-length, put-back-window, put-back-lengt
 use Rattle.command.specs.Outcome.{outcomeNumber}
 use Rattle.command.specs.Report.{wordsRead}
 use Rattle.work.proofs.Reports as work
+use Rattle.state.specs.declared.device.Window.{Window}
 use Rattle.state.specs.declared.device.Device.{Device}
 use Rattle.device.specs.declared.turn.Report.{Report}
 use Rattle.state.specs.Device.{emptyDevice, defaultLimit, ringOf}
-use Rattle.state.specs.Refusal.{limitFits}
 use Rattle.state.proofs.Limits.{limit-fits, limit-unfit}
 use Rattle.device.specs.Answer.{answerNumber, valuesOf}
 use Rattle.device.specs.Fresh.{notMade, freshWith}
 use Rattle.device.specs.Turn.{Call, unchanged, reportOf, finished, servedOf, turnOf}
 use Rattle.demands.specs.Calls.{headIn, leftBy, numberIn, valuesIn}
-use Rattle.demands.specs.Keeps.{Same, SameBytes, OutsideOf, PipeKept, Keeps, TurnKeeps, FreshMakes}
+use Rattle.demands.specs.Keeps.{Same, SameBytes, OutsideOf, PipeKept, Keeps, TurnKeeps, MakingWith, FreshMakes}
 use Rattle.device.proofs.Shapes.{after-limit}
 use Rattle.device.proofs.Turns.{servedIn, turn-cases, picked-servable}
 use Rattle.demands.proofs.Turns.{workIn, served-as}
@@ -100,21 +99,20 @@ pub turn-keeps : TurnKeeps
 unfolding TurnKeeps
 turn-keeps d call = keeps d call
 
--- the limit of a device that names none fits
-by-default : limitFits defaultLimit ≡ true
-by-default = limit-fits defaultLimit (lit≤ tt) (lit≤ tt)
+making-with : (memory : ℕ) (w0 w1 w2 w3 : Window) (limit : ℕ) → MakingWith memory w0 w1 w2 w3 limit
+unfolding freshWith notMade
+making-with memory w0 w1 w2 w3 limit = record {
+  made = λ fits low high. record { device = rw (fits, limit-fits limit low high); answer = rw (fits, limit-fits limit low high) };
+  refused-101 = λ unfit. record { device = rw unfit; answer = rw unfit };
+  refused-102 = λ fits outside. record { device = rw (fits, limit-unfit limit outside); answer = rw (fits, limit-unfit limit outside) };
+}
 
 pub fresh-makes : FreshMakes
-unfolding freshWith notMade emptyDevice
+unfolding emptyDevice
 fresh-makes = record {
-  named = λ memory w0 w1 w2 w3 limit. record {
-    made = λ fits low high. record { device = rw (fits, limit-fits limit low high); answer = rw (fits, limit-fits limit low high) };
-    refused-101 = λ unfit. record { device = rw unfit; answer = rw unfit };
-    refused-102 = λ fits outside. record { device = rw (fits, limit-unfit limit outside); answer = rw (fits, limit-unfit limit outside) };
-  };
-  unnamed = λ memory w0 w1 w2 w3. record {
-    made = λ fits. record { device = rw (fits, by-default); answer = rw (fits, by-default) };
-    refused = λ unfit. record { device = rw unfit; answer = rw unfit };
-  };
+  named = making-with;
+  unnamed = λ memory w0 w1 w2 w3.
+      let by-default = making-with memory w0 w1 w2 w3 defaultLimit in
+      record { made = λ fits. by-default .made fits (lit≤ tt) (lit≤ tt); refused = by-default .refused-101 };
   empty = refl;
 }

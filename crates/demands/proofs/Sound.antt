@@ -12,7 +12,7 @@ use borrow.Author.Tests.{le-leb, lt-leb}
 use Rattle.memory.proofs.Window.{window-length}
 use Rattle.command.specs.Outcome.{isDone}
 use Rattle.command.specs.Frame.{heldFault}
-use Rattle.words.proofs.Choices.{both-left, both-right}
+use Rattle.words.proofs.Choices.{both-left, both-right, not-held}
 use Rattle.work.proofs.Kept.{performed-frame}
 use Rattle.state.specs.declared.device.Window.{Window}
 use Rattle.state.specs.declared.device.Device.{Device}
@@ -23,7 +23,7 @@ use Rattle.state.specs.declared.ready.Picked.the-variants.{Ring as RingOf}
 use Rattle.state.specs.Device.{emptyWindow, freshDevice, emptyDevice, defaultLimit, ringOf, slotOf}
 use Rattle.device.specs.Answer.{answerNumber}
 use Rattle.state.specs.Refusal.{refusalNumber, windowFits, memoryFits, windowsFit, ringSound, limitFits, stateSound, verdictOf}
-use Rattle.state.proofs.Limits.{limit-unfit}
+use Rattle.state.proofs.Limits.{default-fits, limit-unfit}
 use Rattle.device.specs.Fresh.{notMade, freshWith}
 use Rattle.device.specs.Turn.{Call, unchanged, ringAfter, reportOf, finished, servedOf, verdictOn, ringIn, pickIn}
 use Rattle.state.proofs.Seeks.{next-below}
@@ -59,10 +59,6 @@ sound-if d marker limit rings =
 abbrev Numbers : (ℕ → Type 0) → Verdict → Type 0
 Numbers P Sound = (n : ℕ) → n ≤ 1 → P n
 Numbers P (Refused why) = P (refusalNumber why)
-
-both-false : (a : Bool) → (a && false) ≡ false
-both-false true = refl
-both-false false = refl
 
 module _ (d : Device) (call : Call) where
   -- the ring that a turn served is sound: its cursor ends in its bytes, and its frame is one that SET_FB did not refuse
@@ -155,8 +151,11 @@ module _ (d : Device) (call : Call) where
 
   -- a limit that does not fit is refused where the windows do
   limit-refused : windowsFit d (length (call .memory)) ≡ true → (d .limit ≡ 0) ⊎ (65536 < d .limit) → verdictOn d call ≡ Refused Refusal.State
-  unfolding verdictOn verdictOf stateSound
-  limit-refused fits outside = rw (fits, limit-unfit (d .limit) outside, both-false (leb (d .marker) 3))
+  unfolding verdictOn verdictOf
+  limit-refused fits outside =
+      let unfit = limit-unfit (d .limit) outside in
+      let unsound = not-held (stateSound d) (λ sound. let both = limit-sound d sound in let z : _≡_ {A = ℕ} 0 1 = cc in omega arith) in
+      rw (fits, unsound)
 
   stays-sound : StaysSound d call
   stays-sound = record {
@@ -200,8 +199,8 @@ empty-fit n short = rw (le-leb n 1048576 short, le-leb 0 n (omega arith))
 
 -- the empty device is sound, and its windows fit every memory that is not too long
 empty-sound : stateSound emptyDevice ≡ true
-unfolding emptyDevice limitFits
-empty-sound = fresh-sound emptyWindow emptyWindow emptyWindow emptyWindow defaultLimit refl
+unfolding emptyDevice
+empty-sound = fresh-sound emptyWindow emptyWindow emptyWindow emptyWindow defaultLimit default-fits
 
 empty-fits : (n : ℕ) → n ≤ 1048576 → windowsFit emptyDevice n ≡ true
 unfolding emptyDevice

@@ -78,6 +78,7 @@ pub record Making (memory : ℕ) (w0 w1 w2 w3 : Window) : Type 0 where
   pub made : memoryFits memory w0 w1 w2 w3 ≡ true → Gives (freshOf memory w0 w1 w2 w3) (freshDevice w0 w1 w2 w3 16384) 0
   pub refused : memoryFits memory w0 w1 w2 w3 ≡ false → Gives (freshOf memory w0 w1 w2 w3) emptyDevice 101
 
+-- making a device, with a limit named and with none
 pub record FreshMakes : Type 0 where
   pub named : (memory : ℕ) (w0 w1 w2 w3 : Window) (limit : ℕ) → MakingWith memory w0 w1 w2 w3 limit
   pub unnamed : (memory : ℕ) (w0 w1 w2 w3 : Window) → Making memory w0 w1 w2 w3

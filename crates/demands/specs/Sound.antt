@@ -59,7 +59,7 @@ pub record MakesSound (memory : ℕ) (w0 w1 w2 w3 : Window) (limit : ℕ) : Type
   -- refused, they are empty and fit every memory that is not too long
   pub empty : 101 ≤ makingNumber (freshWith memory w0 w1 w2 w3 limit .answer) → (n : ℕ) → n ≤ 1048576 → windowsFit (freshWith memory w0 w1 w2 w3 limit .device) n ≡ true
 
--- so is every making; one with no limit named is one with 16,384
+-- with any limit named; where none is named it is 16,384
 unfoldable pub FreshMakesSound : Type 0
 FreshMakesSound = (memory : ℕ) (w0 w1 w2 w3 : Window) (limit : ℕ) → MakesSound memory w0 w1 w2 w3 limit
 

@@ -39,15 +39,16 @@ unfolding emitTo withSlots emittedIn slotOf SlotsFit
 emit-fits true d n fit m = put-each (λ x. x < 2 ^ 32) 0 (d .slots) n (emitted (getD (d .slots) n 0)) m (λ e. omega arith) (fit m)
 emit-fits false d n fit m = fit m
 
--- an emit changes no limit, and so no served command
-emit-limit : (b : Bool) (d : Device) (n : ℕ) → emitTo b d n .limit ≡ d .limit
+-- an emit changes the slots alone
+pub emit-alone : (b : Bool) (d : Device) (n : ℕ) → emitTo b d n ≡ withSlots d (emitTo b d n .slots)
 unfolding emitTo withSlots
-emit-limit true d n = refl
-emit-limit false d n = refl
+emit-alone true d n = refl
+emit-alone false d n = refl
 
+-- so no served command changes the limit
 pub after-limit : (d : Device) (q : ℕ) (c : Command) (p : Performed) → deviceAfter d q c p .limit ≡ d .limit
-unfolding deviceAfter withMarker withRing
-after-limit d q c p = emit-limit _ _ (c .rdst)
+unfolding deviceAfter withMarker withRing withSlots
+after-limit d q c p = ap (λ after. after .limit) (emit-alone _ _ (c .rdst))
 
 pub after-shaped : (d : Device) (q : ℕ) (c : Command) (p : Performed) → Shaped d → Shaped (deviceAfter d q c p)
 unfolding deviceAfter withMarker withRing
@@ -65,18 +66,18 @@ pub fresh-shaped : (w0 w1 w2 w3 : Window) (limit : ℕ) → Shaped (freshDevice 
 unfolding freshDevice
 fresh-shaped w0 w1 w2 w3 limit = record { rings = refl; slots = refl }
 
-pub empty-shaped : Shaped emptyDevice
+empty-shaped : Shaped emptyDevice
 unfolding emptyDevice
 empty-shaped = fresh-shaped emptyWindow emptyWindow emptyWindow emptyWindow defaultLimit
 
 -- what holds of the empty device, and of a fresh one if it is made, holds of what a making gives
 pub made-each : (P : Device → Type 0) (memory : ℕ) (w0 w1 w2 w3 : Window) (limit : ℕ) → P emptyDevice
-    → P (freshDevice w0 w1 w2 w3 limit) → P (freshWith memory w0 w1 w2 w3 limit .device)
+    → (limitFits limit ≡ true → P (freshDevice w0 w1 w2 w3 limit)) → P (freshWith memory w0 w1 w2 w3 limit .device)
 unfolding freshWith notMade
 made-each P memory w0 w1 w2 w3 limit empty fresh =
     let Has : Fresh → Type 0 = λ made. P (made .device) in
-    cond-has Has (memoryFits memory w0 w1 w2 w3) (λ fits. cond-has Has (limitFits limit) (λ limited. fresh) (λ unfit. empty))
+    cond-has Has (memoryFits memory w0 w1 w2 w3) (λ fits. cond-has Has (limitFits limit) fresh (λ unfit. empty))
     (λ unfit. empty)
 
 pub made-shaped : (memory : ℕ) (w0 w1 w2 w3 : Window) (limit : ℕ) → Shaped (freshWith memory w0 w1 w2 w3 limit .device)
-made-shaped memory w0 w1 w2 w3 limit = made-each Shaped memory w0 w1 w2 w3 limit empty-shaped (fresh-shaped w0 w1 w2 w3 limit)
+made-shaped memory w0 w1 w2 w3 limit = made-each Shaped memory w0 w1 w2 w3 limit empty-shaped (λ limited. fresh-shaped w0 w1 w2 w3 limit)

@@ -1,6 +1,6 @@
 -- Each served turn takes at least 16 bytes, so a caller's loop over unchanging rings ends.
 -- Assumes nothing.
-use mathlib.Core.Path.{_≡_, refl, sym}
+use mathlib.Core.Path.{_≡_, refl, sym, ap}
 use mathlib.Core.Bool.{Bool, true, false}
 use mathlib.Core.List.{List}
 use Prim.Native.Nat.{ℕ, zero, suc, _+_, _≤_, _<_}
@@ -18,22 +18,17 @@ use Rattle.state.specs.declared.device.Device.{Device}
 use Rattle.device.specs.declared.turn.Report.{Report}
 use Rattle.device.specs.declared.turn.Answer.the-variants.{Served}
 use Rattle.state.specs.Device.{Shaped, ringOf, withRing, withSlots, withMarker}
-use Rattle.device.specs.Turn.{Call, ringIn, unchanged, emitTo, ringAfter, deviceAfter, finished, servedOf, turnOf}
+use Rattle.device.specs.Turn.{Call, ringIn, unchanged, ringAfter, deviceAfter, finished, servedOf, turnOf}
 use Rattle.device.specs.Untaken.{untakenOf, sumOf, untakenIn}
 use Rattle.command.proofs.Sizes.{whole-inside}
 use Rattle.device.proofs.Turns.{turn-cases, picked-servable}
-
--- an emit changes no ring
-emit-rings : (b : Bool) (d : Device) (n : ℕ) → emitTo b d n .rings ≡ d .rings
-unfolding emitTo withSlots
-emit-rings true d n = refl
-emit-rings false d n = refl
+use Rattle.device.proofs.Shapes.{emit-alone}
 
 module _ (d : Device) (q : ℕ) (c : Command) (p : Performed) where
   -- of the rings, the served one alone is changed
   pub rings-after : deviceAfter d q c p .rings ≡ set (d .rings) q (ringAfter (ringOf d q) c (p .frame))
-  unfolding deviceAfter withMarker withRing
-  rings-after = emit-rings _ _ _
+  unfolding deviceAfter withMarker withRing withSlots
+  rings-after = ap (λ after. after .rings) (emit-alone _ _ (c .rdst))
 
   pub served-ring : q < length (d .rings) → ringOf (deviceAfter d q c p) q ≡ ringAfter (ringOf d q) c (p .frame)
   unfolding ringOf

@@ -30,7 +30,7 @@ pub fn making_number(making: Making) -> u32
     }
 }
 
-fn refused(why: Refusal) -> Fresh
+fn not_made(why: Refusal) -> Fresh
     ensures { λ r. ⌜ r ≡ notMade why ⌝ }
 {
     Fresh {
@@ -46,10 +46,10 @@ pub fn make_with(memory: usize, w0: Window, w1: Window, w2: Window, w3: Window, 
     let memory_fits = memory_fits(memory, w0, w1, w2, w3);
     let limit_fits = limit_fits(limit);
     if !memory_fits {
-        return refused(Refusal::Memory);
+        return not_made(Refusal::Memory);
     }
     if !limit_fits {
-        return refused(Refusal::State);
+        return not_made(Refusal::State);
     }
     Fresh {
         device: Device::fresh(w0, w1, w2, w3, limit),

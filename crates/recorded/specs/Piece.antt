@@ -38,7 +38,7 @@ wordOf body k = wordAt (entryOf body k) 8
 
 -- the number that it is, of at most eight bytes
 unfoldable pub numberOf : List ℕ → ℕ → ℕ
-numberOf body k = 2 ^ 32 * wordAt (entryOf body k) 12 + wordAt (entryOf body k) 8
+numberOf body k = 2 ^ 32 * wordAt (entryOf body k) 12 + wordOf body k
 
 -- the first n bytes of an entry's piece; one that is not stored is 0
 unfoldable pub firstBytes : ℕ → List ℕ → List ℕ

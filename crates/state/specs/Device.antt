@@ -29,7 +29,7 @@ pub record Shaped (d : Device) : Type 0 where
 abbrev pub defaultLimit : ℕ
 defaultLimit = 16384
 
--- a fresh device: all 64 slots 0, the marker 0
+-- a fresh device with this limit: all 64 slots 0, the marker 0
 unfoldable pub freshDevice : Window → Window → Window → Window → ℕ → Device
 freshDevice w0 w1 w2 w3 limit =
     deviceOf (freshRing w0 ∷ freshRing w1 ∷ freshRing w2 ∷ freshRing w3 ∷ []) (replicate 64 0) 0 limit

@@ -1,7 +1,7 @@
 // The device's state.
 ghost use mathlib.Core.Path.{_≡_};
 ghost use Prim.Native.Nat.{_<_};
-ghost use Rattle.state.specs.Device.{defaultLimit, deviceOf, ByType, freshRing, freshDevice, emptyDevice, ringOf, slotOf, withRing, withSlots, withMarker};
+ghost use Rattle.state.specs.Device.{deviceOf, ByType, freshRing, freshDevice, emptyDevice, ringOf, slotOf, withRing, withSlots, withMarker};
 use command::frame::Frame;
 
 // The limit where none is named.

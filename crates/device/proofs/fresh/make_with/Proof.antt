@@ -11,19 +11,19 @@ memory-fits-requires c κs = search needs
 limit-fits-requires : tie.Need-limit-fits-requires
 limit-fits-requires c κs = search needs
 
-refused-requires : tie.Need-refused-requires
-refused-requires c κs = search needs
+not-made-requires : tie.Need-not-made-requires
+not-made-requires c κs = search needs
 
 returns : tie.Need-returns
 unfolding freshWith
-returns c = rw (← c .before .before .before .memory-fits .ensures, not-true (c .before .before .before .memory-fits .result) (c .before .if1 .taken)) (c .refused .ensures)
+returns c = rw (← c .before .before .before .memory-fits .ensures, not-true (c .before .before .before .memory-fits .result) (c .before .if1 .taken)) (c .not-made .ensures)
 
-refused-requires-2 : tie.Need-refused-requires-2
-refused-requires-2 c κs = search needs
+not-made-requires-2 : tie.Need-not-made-requires-2
+not-made-requires-2 c κs = search needs
 
 returns-2 : tie.Need-returns-2
 unfolding freshWith
-returns-2 c = rw (← c .before .before .before .before .memory-fits .ensures, not-false (c .before .before .before .before .memory-fits .result) (c .before .before .if1 .left), ← c .before .before .before .limit-fits .ensures, not-true (c .before .before .before .limit-fits .result) (c .before .if2 .taken)) (c .refused2 .ensures)
+returns-2 c = rw (← c .before .before .before .before .memory-fits .ensures, not-false (c .before .before .before .before .memory-fits .result) (c .before .before .if1 .left), ← c .before .before .before .limit-fits .ensures, not-true (c .before .before .before .limit-fits .result) (c .before .if2 .taken)) (c .not-made2 .ensures)
 
 fresh-requires : tie.Need-fresh-requires
 fresh-requires c κs = search needs
@@ -38,9 +38,9 @@ make-with-spec =
     (tie.spec
     memory-fits-requires
     limit-fits-requires
-    refused-requires
+    not-made-requires
     returns
-    refused-requires-2
+    not-made-requires-2
     returns-2
     fresh-requires
     returns-3)

@@ -1,5 +1,5 @@
 -- `recorded::piece::number_of` meets its contract. Assumes nothing.
-use Rattle.recorded.specs.Piece.{numberOf}
+use Rattle.recorded.specs.Piece.{wordOf, numberOf}
 use borrow.Author.Needs.{needs}
 use Rattle.recorded.proofs.piece.number_of.Statement.{statement}
 use Rattle.recorded.proofs.piece.number_of.Tie as tie
@@ -26,7 +26,7 @@ add-result : tie.Need-add-result
 add-result c = search needs
 
 returns : tie.Need-returns
-unfolding numberOf
+unfolding numberOf wordOf
 returns c = rw (← c .before .before .entry-of .ensures, c .peek-word2 .ensures, c .before .peek-word .ensures)
 
 pub number-of-spec : {M : Type 1} → statement M
