@@ -100,7 +100,7 @@ unfolding TurnKeeps
 turn-keeps d call = keeps d call
 
 making-with : (memory : ℕ) (w0 w1 w2 w3 : Window) (limit : ℕ) → MakingWith memory w0 w1 w2 w3 limit
-unfolding freshWith notMade
+unfolding freshWith notMade emptyDevice
 making-with memory w0 w1 w2 w3 limit = record {
   made = λ fits low high. record { device = rw (fits, limit-fits limit low high); answer = rw (fits, limit-fits limit low high) };
   refused-101 = λ unfit. record { device = rw unfit; answer = rw unfit };

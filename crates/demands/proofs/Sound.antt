@@ -154,7 +154,7 @@ module _ (d : Device) (call : Call) where
   unfolding verdictOn verdictOf
   limit-refused fits outside =
       let unfit = limit-unfit (d .limit) outside in
-      let unsound = not-held (stateSound d) (λ sound. let both = limit-sound d sound in let z : _≡_ {A = ℕ} 0 1 = cc in omega arith) in
+      let unsound = not-held (stateSound d) (λ sound. let fits-too = limit-sound d sound in let z : _≡_ {A = ℕ} 0 1 = cc in omega arith) in
       rw (fits, unsound)
 
   stays-sound : StaysSound d call
@@ -163,8 +163,8 @@ module _ (d : Device) (call : Call) where
     windows = left-windows;
     fits = left-fits;
     not-102 = λ state. number-not 102 (lit≤ tt) (lit≤ tt) (λ e same. omega arith) (λ e same. let z : _≡_ {A = ℕ} 0 1 = cc in omega arith);
-    limit-102 = λ fits outside. refused-number {why = Refusal.State} (limit-refused fits outside);
     not-101 = λ fits. number-not 101 (lit≤ tt) (lit≤ tt) (λ e same. let z : _≡_ {A = ℕ} 0 1 = cc in omega arith) (λ e same. omega arith);
+    limit-102 = λ fits outside. refused-number {why = Refusal.State} (limit-refused fits outside);
   }
 
   refused-for-lent : stateSound d ≡ true → windowsFit d (length (call .memory)) ≡ true → RefusedForLent d call

@@ -55,6 +55,7 @@ least : (dispatchOf 1 (packOf 0xFFF00297) 0 1 1 (replicate 64 0) ≡ record { ra
 unfolding dispatchOf threadsOf threadMore ifDone threadOf shown ranOf runOf stepsOf stepMore ifRunning running stepOf stops endsThread started startRegisters executed decoded opOf immediateRow systemRow effectOf aluOf applied goesOn advanced movedTo written withScalar scalarOf kernelOf kernelCount firstWord kernelWords after halfAt wordAt
 least = (refl, refl, refl)
 
+-- both at once, since they open the same definitions
 worked : Table × LeastLimit
 unfolding valuesOf colored freshDevice ringOf slotOf withRing withSlots emittedIn withMarker windowFits memoryFits windowsFit ringSound limitFits stateSound ringFits ringsFit verdictOf readyWith readyWhere readyAt nextRing seek bytesOfRing pickOf unchanged fenceOf emitTo ringAfter deviceAfter reportOf finished servedOf pickedOf judgedOf verdictOn turnOf rowOf waitSize payloadSize targetAt commandAt isWhole unknownOpcode wrongPayloadBit noSuchSlot headerFault frameMisaligned frameUnfit frameFault heldFault isRectangle sizeOf widthOf heightOf tooNarrow endOf slotFault misaligned unframed outside unfitFrame outOfRange unfitDispatch checkOf emits interrupts wordsRead leaves ranOutcome dispatchedBy afterDispatch heldBy workOf orElse faultOf guarded performedOf after halfAt wordAt withByte withHalf withWord rectangleEnd filledRow filled windowOf putBack kernelCount firstWord kernelWords codeCount liesInCode allBelow soundPack kernelOf
 worked = (

@@ -17,9 +17,9 @@ pub record Whole (body : List ℕ) : Type 0 where
   pub windows : lengthOf body 0 ≡ windowsLength
   pub image : lengthOf body 2 ≡ imageLength
 
-pub whole : (named : Bool) (body : List ℕ) → areWhole named body ≡ true → Whole body
+pub whole : (body : List ℕ) (named : Bool) → areWhole body named ≡ true → Whole body
 unfolding areWhole
-whole named body all =
+whole body named all =
     let windows = eqb (lengthOf body 0) windowsLength in
     let image = eqb (lengthOf body 2) imageLength in
     let numbers = eqb (lengthOf body 1) 8 && eqb (lengthOf body 4) 4 in

@@ -12,6 +12,6 @@ use Rattle.recorded.specs.Turn.{turnSeen}
 -- by its first word: 0 makes a fresh device, 1 is a turn, 2 makes a fresh device with a limit named, any other is damaged
 unfoldable pub callSeen : List ℕ → Seen
 callSeen body =
-    cond (eqb (wordAt body 0) 0) (freshSeen false body)
+    cond (eqb (wordAt body 0) 0) (freshSeen body false)
     (cond (eqb (wordAt body 0) 1) (turnSeen body)
-    (cond (eqb (wordAt body 0) 2) (freshSeen true body) Damaged))
+    (cond (eqb (wordAt body 0) 2) (freshSeen body true) Damaged))

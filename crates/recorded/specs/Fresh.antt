@@ -16,26 +16,26 @@ abbrev pub piecesOf : Bool → ℕ
 piecesOf named = cond named 6 5
 
 -- its pieces are as long as those of a call: the memory's length is a number of 8 bytes, the answer and a named limit of 4
-unfoldable pub areWhole : Bool → List ℕ → Bool
-areWhole named body =
+unfoldable pub areWhole : List ℕ → Bool → Bool
+areWhole body named =
     ((eqb (lengthOf body 0) windowsLength && eqb (lengthOf body 2) imageLength) && (eqb (lengthOf body 1) 8 && eqb (lengthOf body 4) 4))
     && (not named || eqb (lengthOf body 5) 4)
 
 -- what the call on the recorded pieces leaves and answers
-unfoldable pub freshMade : Bool → List ℕ → Freshened
-freshMade named body =
+unfoldable pub freshMade : List ℕ → Bool → Freshened
+freshMade body named =
     cond named
     (freshWithCall (pieceBytes body 2) (pieceBytes body 0) (numberOf body 1) (wordOf body 5))
     (freshCall (pieceBytes body 2) (pieceBytes body 0) (numberOf body 1))
 
 -- image and answer are those recorded, and no byte follows the last piece
-unfoldable pub freshRecorded : Bool → List ℕ → Freshened → Bool
-freshRecorded named body made =
+unfoldable pub freshRecorded : List ℕ → Bool → Freshened → Bool
+freshRecorded body named made =
     isPiece (made .image) body 3 && (eqb (made .answer) (numberOf body 4) && hasPieces body (piecesOf named))
 
 -- what is seen of it
-unfoldable pub freshSeen : Bool → List ℕ → Seen
-freshSeen named body = cond (areWhole named body) (Fresh (freshRecorded named body (freshMade named body))) Damaged
+unfoldable pub freshSeen : List ℕ → Bool → Seen
+freshSeen body named = cond (areWhole body named) (Fresh (freshRecorded body named (freshMade body named))) Damaged
 
 -- the image and the windows that are lent are the recorded pieces
 pub record Laid (body i w : List ℕ) : Type 0 where

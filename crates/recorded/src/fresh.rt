@@ -25,7 +25,7 @@ fn pieces_of(named: bool) -> usize
 
 // Whether the pieces have the lengths of those of a call.
 fn are_whole(body: &[u8], named: bool) -> bool
-    ensures { λ r. ⌜ r ≡ areWhole named (now (body .entry)) ⌝ }
+    ensures { λ r. ⌜ r ≡ areWhole (now (body .entry)) named ⌝ }
 {
     let is_call = both(
         length_of(body, 0) == WINDOWS_BYTES,
@@ -39,7 +39,7 @@ fn are_whole(body: &[u8], named: bool) -> bool
 // Makes the recorded call on these pieces.
 fn make_again(image: &mut [u8], windows: &[u8], body: &[u8], named: bool) -> u32
     requires { ⌜ Laid (now body) (now image) (now windows) ⌝ }
-    ensures { λ r. ⌜ Freshens (now (image .exit)) r (freshMade named (now (body .entry))) ⌝ }
+    ensures { λ r. ⌜ Freshens (now (image .exit)) r (freshMade (now (body .entry)) named) ⌝ }
 {
     let memory = number_of(body, 1);
     if named {
@@ -49,7 +49,7 @@ fn make_again(image: &mut [u8], windows: &[u8], body: &[u8], named: bool) -> u32
 }
 
 pub fn compare(body: &[u8], named: bool) -> Seen
-    ensures { λ r. ⌜ r ≡ freshSeen named (now (body .entry)) ⌝ }
+    ensures { λ r. ⌜ r ≡ freshSeen (now (body .entry)) named ⌝ }
 {
     if !are_whole(body, named) {
         return Seen::Damaged;
