@@ -1,6 +1,7 @@
 -- The demands hold: each statement of specs/, with nothing left to assume.
 use Rattle.demands.specs.FourTurns.{FourTurns, FourTurnsByHead}
-use Rattle.demands.specs.Keeps.{TurnKeeps, FreshMakes}
+use Rattle.demands.specs.Keeps.{TurnKeeps}
+use Rattle.demands.specs.Makings.{FreshMakes}
 use Rattle.demands.specs.Sound.{TurnStaysSound, SoundRefusals, FreshMakesSound, CallsStaySound, FreshStaysSound}
 use Rattle.demands.specs.Reports.{TurnReports}
 use Rattle.demands.specs.Bounded.{TurnsBounded, IdleInTime, FreshIdleInTime}
@@ -10,6 +11,7 @@ use Rattle.demands.specs.OneAnswer.{OneAnswer}
 use Rattle.demands.specs.Table.{Table, LeastLimit}
 use Rattle.demands.proofs.FourTurns as four
 use Rattle.demands.proofs.Keeps as keeps
+use Rattle.demands.proofs.Makings as makings
 use Rattle.demands.proofs.Sound as sound
 use Rattle.demands.proofs.Reports as reports
 use Rattle.demands.proofs.Bounded as bounded
@@ -22,8 +24,9 @@ use Rattle.demands.proofs.Table as worked
 pub turn-keeps : TurnKeeps
 turn-keeps = keeps.turn-keeps
 
+-- demand 1: what making a device gives
 pub fresh-makes : FreshMakes
-fresh-makes = keeps.fresh-makes
+fresh-makes = makings.fresh-makes
 
 -- demand 1: a device stays sound, so a call on its own memory is refused only for what it lends
 pub turn-stays-sound : TurnStaysSound

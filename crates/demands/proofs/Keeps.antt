@@ -3,22 +3,18 @@
 use mathlib.Core.Path.{_≡_, refl, sym, ap, subst, _∙_}
 use Prim.Native.Nat.{ℕ, _+_, _≤_}
 use native.Mathlib.Omega.{arith}
-use lib.Dec.{lit≤}
 use lib.ListN.{length, getD}
 use Rattle.memory.proofs.Window.{window-length, put-back-window, put-back-length, put-back-outside}
 use Rattle.command.specs.Outcome.{outcomeNumber}
 use Rattle.command.specs.Report.{wordsRead}
 use Rattle.work.proofs.Reports as work
-use Rattle.state.specs.declared.device.Window.{Window}
 use Rattle.state.specs.declared.device.Device.{Device}
 use Rattle.device.specs.declared.turn.Report.{Report}
-use Rattle.state.specs.Device.{emptyDevice, defaultLimit, ringOf}
-use Rattle.state.proofs.Limits.{limit-fits, limit-unfit}
+use Rattle.state.specs.Device.{ringOf}
 use Rattle.device.specs.Answer.{answerNumber, valuesOf}
-use Rattle.device.specs.Fresh.{notMade, freshWith}
 use Rattle.device.specs.Turn.{Call, unchanged, reportOf, finished, servedOf, turnOf}
 use Rattle.demands.specs.Calls.{headIn, leftBy, numberIn, valuesIn}
-use Rattle.demands.specs.Keeps.{Same, SameBytes, OutsideOf, PipeKept, Keeps, TurnKeeps, MakingWith, FreshMakes}
+use Rattle.demands.specs.Keeps.{Same, SameBytes, OutsideOf, PipeKept, Keeps, TurnKeeps}
 use Rattle.device.proofs.Shapes.{after-limit}
 use Rattle.device.proofs.Turns.{servedIn, turn-cases, picked-servable}
 use Rattle.demands.proofs.Turns.{workIn, served-as}
@@ -98,21 +94,3 @@ module _ (d : Device) (call : Call) where
 pub turn-keeps : TurnKeeps
 unfolding TurnKeeps
 turn-keeps d call = keeps d call
-
-making-with : (memory : ℕ) (w0 w1 w2 w3 : Window) (limit : ℕ) → MakingWith memory w0 w1 w2 w3 limit
-unfolding freshWith notMade emptyDevice
-making-with memory w0 w1 w2 w3 limit = record {
-  made = λ fits low high. record { device = rw (fits, limit-fits limit low high); answer = rw (fits, limit-fits limit low high) };
-  refused-101 = λ unfit. record { device = rw unfit; answer = rw unfit };
-  refused-102 = λ fits outside. record { device = rw (fits, limit-unfit limit outside); answer = rw (fits, limit-unfit limit outside) };
-}
-
-pub fresh-makes : FreshMakes
-unfolding emptyDevice
-fresh-makes = record {
-  named = making-with;
-  unnamed = λ memory w0 w1 w2 w3.
-      let by-default = making-with memory w0 w1 w2 w3 defaultLimit in
-      record { made = λ fits. by-default .made fits (lit≤ tt) (lit≤ tt); refused = by-default .refused-101 };
-  empty = refl;
-}

@@ -5,6 +5,7 @@ pub mod Works
 pub mod Walks
 pub mod FourTurns
 pub mod Keeps
+pub mod Makings
 pub mod Sound
 pub mod Emitting
 pub mod Reports

@@ -1,5 +1,6 @@
 pub mod Calls
 pub mod Keeps
+pub mod Makings
 pub mod Reports
 pub mod FourTurns
 pub mod Bounded
