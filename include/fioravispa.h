@@ -21,11 +21,14 @@ extern "C" {
 enum {
     FV_RINGS = 4,
     FV_SLOTS = 64,
-    FV_IMAGE_BYTES = 376,         /* 94 words: seven for each ring, the slots, the marker, the limit */
+    FV_OUTCOMES = 15,             /* 0 to 14 */
+    FV_IMAGE_BYTES = 452,         /* 113 words: seven for each ring, the slots, the marker, the limit, the counts */
     FV_IMAGE_RING_WORDS = 7,      /* window start, window length, cursor, frame held, base, stride, format */
     FV_IMAGE_SLOTS_WORD = 28,     /* where the slots start */
     FV_IMAGE_MARKER_WORD = 92,
     FV_IMAGE_LIMIT_WORD = 93,
+    FV_IMAGE_COMMANDS_WORD = 94,  /* how many commands each ring has taken */
+    FV_IMAGE_OUTCOMES_WORD = 98,  /* how many commands had each outcome */
     FV_REPORT_BYTES = 24,         /* 6 words */
     FV_WINDOWS_BYTES = 32,        /* four pairs: start, length */
     FV_MEMORY_MOST = 1048576,
@@ -63,7 +66,8 @@ enum {
      * device of four empty windows at 0 whose limit is FV_LIMIT_DEFAULT. */
     FV_REFUSED_MEMORY = 101,      /* memory too long, or a window outside it or not in multiples of 4 */
     FV_REFUSED_STATE = 102,       /* marker above 3, limit outside FV_LIMIT_LEAST to FV_LIMIT_MOST, cursor above
-                                   * FV_RING_MOST, or a held frame SET_FB would refuse */
+                                   * FV_RING_MOST, a held frame SET_FB would refuse, or counts of commands and
+                                   * of outcomes whose sums differ modulo 4,294,967,296 */
     FV_REFUSED_RINGS = 103,       /* a ring too long or shorter than its cursor */
     FV_REFUSED_PIPE = 104,        /* pipe under FV_PIPE_LEAST */
     FV_REFUSED_PACK = 105,        /* faulty pack */
@@ -128,8 +132,8 @@ enum {
  * No byte of it is read or written, so a ring that is not used can stay {0}. A piece
  * that a call changes may overlap no other. */
 
-/* Puts a fresh device into an image: slots, cursors and marker 0, frames unset, the
- * limit FV_LIMIT_DEFAULT.
+/* Puts a fresh device into an image: slots, cursors, marker and counts 0, frames
+ * unset, the limit FV_LIMIT_DEFAULT.
  *   image          FV_IMAGE_BYTES; what it held does not matter
  *   windows        FV_WINDOWS_BYTES: start and length for each ring, in multiples of 4
  *   memory_length  of the memory that the turns will lend
@@ -237,6 +241,20 @@ static inline uint32_t fv_image_limit(const uint8_t *image)
     return fv_word(image, FV_IMAGE_LIMIT_WORD);
 }
 
+/* How many commands of ring q have been taken, q below FV_RINGS. From 4,294,967,295 it
+ * goes round to 0. */
+static inline uint32_t fv_image_commands(const uint8_t *image, uint32_t q)
+{
+    return fv_word(image, FV_IMAGE_COMMANDS_WORD + q);
+}
+
+/* How many commands, of all rings, had an outcome, which is below FV_OUTCOMES; round in
+ * the same way. */
+static inline uint32_t fv_image_outcomes(const uint8_t *image, uint32_t outcome)
+{
+    return fv_word(image, FV_IMAGE_OUTCOMES_WORD + outcome);
+}
+
 struct fv_frame {
     uint32_t held;                /* 0: the ring has no frame */
     uint32_t base, stride, format;
@@ -318,7 +336,7 @@ struct fv_ring {
 };
 
 /* A ring does not wrap: once its commands are taken, this takes ring q back to its
- * start, empty. */
+ * start, empty. Its count of commands goes on. */
 static inline void fv_restart(struct fv_ring *ring, uint8_t *image, uint32_t q)
 {
     ring->length = 0;

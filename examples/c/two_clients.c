@@ -1,7 +1,8 @@
 /* A driver's test: two clients share a frame and keep out of each other's way by
  * fences. A (ring 0) paints a tile; B (ring 1) waits for A's fence and copies
  * it; A waits for B's fence and lets a kernel draw a gradient below; B waits
- * again and reads a row back. Every pixel is checked, before and after. */
+ * again and reads a row back. Every pixel is checked, before and after. At the end
+ * it tells how many commands each had taken, and which outcomes occurred. */
 #include <stdio.h>
 #include <stdlib.h>
 #include <string.h>
@@ -190,6 +191,20 @@ static void check_read_back(void)
         stop("the image does not tell what was done");
 }
 
+/* What the device counted, and that it counted each turn that served once. */
+static void tell_counts(void)
+{
+    const uint32_t of_a = fv_image_commands(image, A), of_b = fv_image_commands(image, B);
+
+    printf("client A (ring %u): %u commands taken\n", A, of_a);
+    printf("client B (ring %u): %u commands taken\n", B, of_b);
+    for (uint32_t outcome = 0; outcome < FV_OUTCOMES; outcome++)
+        if (fv_image_outcomes(image, outcome) != 0)
+            printf("outcome %u: %u commands\n", outcome, fv_image_outcomes(image, outcome));
+    if (of_a + of_b != turns || fv_image_outcomes(image, FV_OUTCOME_DONE) != turns)
+        stop("the counts are not the turns that served");
+}
+
 static void save(const char *folder, const char *name)
 {
     char path[4096];
@@ -216,5 +231,6 @@ int main(int count, char **words)
     check_frame(final_color, "after.ppm");
     check_read_back();
     puts("the frame is right");
+    tell_counts();
     return 0;
 }

@@ -1,5 +1,6 @@
 /* Turns with bytes changed, and turns of any bytes. */
 #include "cases/commands.h"
+#include "cases/counts.h"
 #include "cases/draw.h"
 #include "cases/kernels/packs.h"
 #include "cases/limits.h"
@@ -105,7 +106,7 @@ static void any_bytes(struct piece *piece, struct chance *c, uint32_t most)
 /* Any bytes at all; half of the time with windows that are inside. */
 static void draw_noise(struct call *call, struct chance *c)
 {
-    uint32_t ways = below(c, 16);
+    uint32_t ways = below(c, 16), counts[COUNTS];
 
     call_start(call, CALL_TURN);
     any_bytes(&call->pieces[PIECE_MEMORY], c, 200);
@@ -128,6 +129,10 @@ static void draw_noise(struct call *call, struct chance *c)
         put_word(image_word(call, 0, IND_IMAGE_MARKER), below(c, IND_RINGS));
     if (ways & 8)
         put_word(image_word(call, 0, IND_IMAGE_LIMIT), usual_limit(c));
+    if (mille(c, 800)) {
+        draw_counts(c, below(c, IND_RINGS), IND_STEPS_SPENT, counts);
+        put_counts(call, counts);
+    }
 }
 
 void draw_damaged(struct call *call, struct chance *c)

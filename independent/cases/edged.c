@@ -1,4 +1,6 @@
 /* Turns at an edge of what is allowed. */
+#include <string.h>
+
 #include "cases/commands.h"
 #include "cases/draw.h"
 #include "cases/words.h"
@@ -38,24 +40,6 @@ static void far_cursor(struct call *call, struct chance *c)
              IND_RING_MOST - left[below(c, 5)]);
 }
 
-/* The same with what the ring held, moved to its very end. */
-static void far_command(struct call *call, struct chance *c)
-{
-    uint32_t number = below(c, IND_RINGS);
-    struct piece *ring = &call->pieces[PIECE_RING + number];
-    uint8_t *cursor = image_word(call, number, IND_IMAGE_CURSOR);
-    uint8_t head[128];
-    size_t length = ring->length;
-
-    if (length > sizeof head)
-        return;
-    for (size_t i = 0; i < length; i++)
-        head[i] = ring->bytes[i];
-    piece_zeros(ring, IND_RING_MOST - length);
-    piece_add(ring, head, length);
-    put_word(cursor, get_word(cursor) + (uint32_t)(IND_RING_MOST - length));
-}
-
 /* A cursor that is off by a little. */
 static void near_cursor(struct call *call, struct chance *c)
 {
@@ -69,12 +53,8 @@ static void near_cursor(struct call *call, struct chance *c)
 
 static void move_cursor(struct call *call, struct chance *c)
 {
-    uint32_t x = below(c, 1000);
-
-    if (x < 200)
+    if (mille(c, 200))
         far_cursor(call, c);
-    else if (x < 204)
-        far_command(call, c);
     else
         near_cursor(call, c);
 }
@@ -88,6 +68,56 @@ static void draw_large(struct scene *s)
     draw_turn(s, IND_MEMORY_MOST - (mille(s->c, 700) ? 0 : below(s->c, 9)));
 }
 
+/* Moves a piece's bytes from `at` on by so many, and zeros to where they
+ * stood. */
+static void move_up(struct piece *piece, size_t at, size_t by)
+{
+    size_t count = piece->length - at;
+
+    piece_end(piece, piece->length + by);
+    memmove(piece->bytes + at + by, piece->bytes + at, count);
+    memset(piece->bytes + at, 0, by);
+}
+
+/* What a ring holds at the end of one as long as it may be. */
+static void far_command(struct call *call, uint32_t number)
+{
+    struct piece *ring = &call->pieces[PIECE_RING + number];
+    uint8_t *cursor = image_word(call, number, IND_IMAGE_CURSOR);
+    uint32_t up = IND_RING_MOST - (uint32_t)ring->length;
+
+    move_up(ring, 0, up);
+    put_word(cursor, get_word(cursor) + up);
+}
+
+/* A sound pack's code at the end of as many words as there may be. */
+static void far_code(struct call *call)
+{
+    struct piece *pack = &call->pieces[PIECE_PACK];
+    uint8_t *pair = pack->bytes + WORD;
+    uint8_t *end = pair + (size_t)IND_PAIR_BYTES * get_word(pack->bytes);
+    uint32_t up = IND_CODE_MOST - get_word(end);
+
+    for (; pair < end; pair += IND_PAIR_BYTES)
+        put_word(pair, get_word(pair) + up);
+    put_word(end, IND_CODE_MOST);
+    move_up(pack, (size_t)(end - pack->bytes) + WORD, (size_t)WORD * up);
+}
+
+/* A payload, any command, or kernels behind as much as there may be. */
+static void draw_far(struct scene *s)
+{
+    uint32_t x = below(s->c, 1000);
+
+    s->odd = 40;
+    s->opcode = x < 400 ? WRITE_MEM : x < 900 ? DISPATCH_1D : ANY;
+    draw_turn(s, 0);
+    if (s->opcode == DISPATCH_1D)
+        far_code(s->call);
+    else
+        far_command(s->call, s->lead);
+}
+
 enum theme {
     THEME_STEPS, THEME_STOPS, THEME_SLOTS, THEME_LEN, THEME_TRANSFERS,
     THEME_FRAMES, THEME_RECTANGLES, THEME_NONE
@@ -95,7 +125,7 @@ enum theme {
 
 static enum theme any_theme(struct chance *c)
 {
-    static const uint8_t shares[THEME_NONE] = { 18, 13, 11, 4, 6, 6, 11 };
+    static const uint8_t shares[THEME_NONE] = { 18, 13, 11, 3, 6, 6, 11 };
     uint32_t x = below(c, 100);
     int theme = 0;
 
@@ -154,12 +184,14 @@ void draw_edged(struct call *call, struct chance *c)
     scene_start(&s, call, c, 330);
     if (way < 1)
         draw_large(&s);
+    else if (way < 2)
+        draw_far(&s);
     else
         draw_turn(&s, wish(&s));
     if (mille(c, 250))
         roughen_frames(call, c);
-    if (way >= 1 && way < 12)
+    if (way >= 2 && way < 12)
         move_cursor(call, c);
-    else if (way >= 12 && way < 42)
+    else if (way >= 12 && way < 43)
         spoil_call(call, c);
 }

@@ -95,5 +95,5 @@ void draw_fresh(struct call *call, struct chance *c)
         put_word(bytes + IND_PAIR_BYTES * i + WORD, pair[1]);
     }
     struct piece *image = &call->pieces[PIECE_DEVICE];
-    edge_bytes(c, image->bytes, mille(c, 200) ? image->length : below(c, 60));
+    edge_bytes(c, image->bytes, mille(c, 120) ? image->length : below(c, 60));
 }

@@ -3,10 +3,11 @@
 
 enum { HEADER = IND_HEADER_BYTES, NOISE_MOST = 40 }; /* bytes */
 
-/* What was taken before: whole commands' worth of bytes, or any number. */
-static uint32_t any_cursor(struct scene *s)
+/* What was taken before: whole commands' worth of bytes, or any number. Of a
+ * ring that is not to be served, mostly nothing. */
+static uint32_t any_cursor(struct scene *s, uint32_t ring)
 {
-    switch (below(s->c, 14)) {
+    switch (below(s->c, ring == s->lead ? 20 : 32)) {
     case 0:
     case 1:
         return HEADER * (1 + below(s->c, 2));
@@ -55,14 +56,14 @@ static void add_head(struct scene *s, uint32_t ring)
     uint32_t size = add_command(s, ring, &command);
     if (s->heads[ring] == HEAD_CUT)
         cut(s, ring, size);
-    else if (mille(s->c, 150)) /* something behind it */
+    else if (mille(s->c, 120)) /* something behind it */
         add_noise(s, ring, 1 + below(s->c, 24));
 }
 
 void draw_rings(struct scene *s)
 {
     for (uint32_t ring = 0; ring < IND_RINGS; ring++) {
-        uint32_t cursor = any_cursor(s);
+        uint32_t cursor = any_cursor(s, ring);
         add_noise(s, ring, cursor);
         s->device.rings[ring].cursor = cursor;
         if (s->heads[ring] != HEAD_NONE)

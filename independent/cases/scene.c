@@ -2,6 +2,7 @@
 
 #include <string.h>
 
+#include "cases/counts.h"
 #include "cases/limits.h"
 #include "device/image.h"
 #include "device/parts.h"
@@ -40,11 +41,13 @@ static uint32_t any_memory_len(struct chance *c)
     }
 }
 
-/* Bytes all over, or at the front of zeros. */
+/* Bytes all over, or at the front of zeros: few for a command that has nothing
+ * to do with them. */
 void draw_memory(struct scene *s, uint32_t length)
 {
     struct piece *memory = &s->call->pieces[PIECE_MEMORY];
-    uint32_t filled = mille(s->c, 930) ? 32 : 400;
+    uint32_t usual = s->opcode == BARRIER || s->opcode == SET_FB ? 8 : 28;
+    uint32_t filled = mille(s->c, 960) ? usual : 400;
 
     s->memory_len = length;
     piece_zeros(memory, length);
@@ -145,6 +148,18 @@ static int any_opcode(struct scene *s)
     return mille(s->c, 470) ? DISPATCH_1D : opcodes[below(s->c, 7)];
 }
 
+static void draw_taken(struct scene *s)
+{
+    uint32_t counts[COUNTS];
+    uint32_t last = s->opcode == DISPATCH_1D ? IND_STEPS_SPENT : IND_BAD_FRAME;
+
+    draw_counts(s->c, s->lead, last, counts);
+    for (uint32_t i = 0; i < IND_RINGS; i++)
+        s->device.taken[i] = counts[i];
+    for (uint32_t i = 0; i < IND_OUTCOMES; i++)
+        s->device.outcomes[i] = counts[IND_RINGS + i];
+}
+
 void draw_state(struct scene *s, uint32_t memory_len)
 {
     draw_heads(s);
@@ -154,6 +169,7 @@ void draw_state(struct scene *s, uint32_t memory_len)
                                               : usual_limit(s->c);
     draw_memory(s, memory_len != 0 ? memory_len : any_memory_len(s->c));
     draw_slots(s);
+    draw_taken(s);
     for (uint32_t i = 0; i < IND_RINGS; i++) {
         struct ind_ring *ring = &s->device.rings[i];
         draw_window(s, i);
@@ -162,15 +178,20 @@ void draw_state(struct scene *s, uint32_t memory_len)
     }
 }
 
+/* The pipe holds something where it is written, and now and then elsewhere. */
 void draw_pipe(struct scene *s)
 {
     struct piece *pipe = &s->call->pieces[PIECE_PIPE];
-    uint32_t length = IND_PIPE_LEAST;
+    uint32_t length = IND_PIPE_LEAST, filled = 0;
 
+    if (s->opcode == READ_MEM)
+        filled = below(s->c, 32);
+    else if (mille(s->c, 400))
+        filled = below(s->c, 12);
     if (mille(s->c, 100))
         length += below(s->c, PIPE_ROOM_BESIDE + 1);
     piece_zeros(pipe, length);
-    edge_bytes(s->c, pipe->bytes, mille(s->c, 5) ? length : below(s->c, 16));
+    edge_bytes(s->c, pipe->bytes, mille(s->c, 2) ? length : filled);
 }
 
 void scene_done(struct scene *s)

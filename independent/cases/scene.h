@@ -43,8 +43,8 @@ enum { ANY = -1 };
 void scene_start(struct scene *s, struct call *call, struct chance *c,
                  uint32_t odd);
 
-/* Memory, windows, slots, marker, limit and frames; 0 for any length of
- * memory. */
+/* Memory, windows, slots, marker, limit, counts and frames; 0 for any length
+ * of memory. */
 void draw_state(struct scene *s, uint32_t memory_len);
 /* Parts of it. A window lies inside the memory. */
 void draw_memory(struct scene *s, uint32_t length);

@@ -34,7 +34,12 @@ const char *const sight_names[SIGHTS] = {
     [SEEN_SIDE_64] = "64 groups or threads, run",
     [SEEN_SIDE_65] = "65 groups or threads",
     [SEEN_LAST_KERNEL] = "the last of several kernels, run",
-    [SEEN_NEXT_KERNEL] = "the kernel after the last"
+    [SEEN_NEXT_KERNEL] = "the kernel after the last",
+    [SEEN_FIRST_TAKEN] = "the first command that is counted",
+    [SEEN_BOTH_ROUND] = "a ring's and an outcome's count gone round together",
+    [SEEN_SUMS_ROUND] = "sums of counts equal only modulo 4,294,967,296",
+    [SEEN_FULL_RING] = "a payload that ends a ring of 65,536 bytes, written",
+    [SEEN_FULL_CODE] = "a kernel that ends a code of 16,384 words, done"
 };
 
 static int memory_changed(const struct served *v)
@@ -77,6 +82,26 @@ static void see_header(const struct served *v, uint64_t *counts)
         end == v->before->pieces[PIECE_RING + report->ring].length;
 }
 
+static uint64_t sum(const uint32_t *counts, uint32_t number)
+{
+    uint64_t all = 0;
+
+    for (uint32_t i = 0; i < number; i++)
+        all += counts[i];
+    return all;
+}
+
+static void see_counts(const struct served *v, uint64_t *counts)
+{
+    uint64_t taken = sum(v->device.taken, IND_RINGS);
+    uint64_t outcomes = sum(v->device.outcomes, IND_OUTCOMES);
+
+    counts[SEEN_FIRST_TAKEN] += taken == 0 && outcomes == 0;
+    counts[SEEN_BOTH_ROUND] += v->device.taken[v->report.ring] == UINT32_MAX
+        && v->device.outcomes[v->report.outcome] == UINT32_MAX;
+    counts[SEEN_SUMS_ROUND] += taken != outcomes;
+}
+
 static void see_transfer(const struct served *v, uint64_t *counts)
 {
     const struct ind_command *command = &v->command;
@@ -85,6 +110,11 @@ static void see_transfer(const struct served *v, uint64_t *counts)
     uint64_t length = v->device.rings[v->report.ring].window_length;
     int done = outcome == IND_DONE;
 
+    counts[SEEN_FULL_RING] += done && command->payload != NULL
+        && command->len != 0
+        && command->payload + WORD * command->len
+           == v->before->pieces[PIECE_RING + v->report.ring].bytes
+              + IND_RING_MOST;
     counts[SEEN_LEN_0] += done && command->len == 0;
     counts[SEEN_LEN_0_OUTSIDE] += outcome == IND_OUTSIDE_WINDOW
         && command->len == 0;
@@ -125,9 +155,11 @@ static void see_rectangle(const struct served *v, uint64_t *counts)
 static void see_dispatch(const struct served *v, uint64_t *counts)
 {
     const struct ind_command *command = &v->command;
-    uint32_t kernels = ind_get(v->before->pieces[PIECE_PACK].bytes, WORD);
+    const struct piece *pack = &v->before->pieces[PIECE_PACK];
+    uint32_t kernels = ind_get(pack->bytes, WORD);
     int ran = v->report.outcome == IND_DONE
         || v->report.outcome >= IND_NOT_LISTED;
+    struct ind_kernel kernel;
 
     counts[SEEN_THREADS] += ran && command->arg0 * command->arg1 > 1;
     counts[SEEN_KEPT_STORES] += v->report.outcome >= IND_NOT_LISTED
@@ -139,11 +171,15 @@ static void see_dispatch(const struct served *v, uint64_t *counts)
     counts[SEEN_LAST_KERNEL] += ran && kernels > 1
         && command->arg2 == kernels - 1;
     counts[SEEN_NEXT_KERNEL] += command->arg2 == kernels;
+    counts[SEEN_FULL_CODE] += v->report.outcome == IND_DONE
+        && ind_kernel_extent(pack->bytes, pack->length, command->arg2, &kernel)
+        && kernel.first + kernel.words == IND_CODE_MOST;
 }
 
 void see_served(const struct served *v, uint64_t counts[SIGHTS])
 {
     see_header(v, counts);
+    see_counts(v, counts);
     counts[SEEN_MEMORY] += (uint64_t)memory_changed(v);
     counts[SEEN_REWRITTEN] += (uint64_t)rewritten(v);
     if (ind_header_fault(&v->command) != IND_DONE)

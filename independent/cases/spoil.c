@@ -1,4 +1,5 @@
 /* Reasons for a call to be refused, and near misses of them. */
+#include "cases/counts.h"
 #include "cases/draw.h"
 #include "cases/kernels/packs.h"
 #include "cases/limits.h"
@@ -10,6 +11,12 @@ uint8_t *image_word(struct call *call, uint32_t ring, uint32_t word)
 {
     return call->pieces[PIECE_DEVICE].bytes
         + (size_t)WORD * (IND_IMAGE_RING_WORDS * ring + word);
+}
+
+void put_counts(struct call *call, const uint32_t *counts)
+{
+    for (uint32_t i = 0; i < COUNTS; i++)
+        put_word(image_word(call, 0, IND_IMAGE_TAKEN + i), counts[i]);
 }
 
 static void spoil_memory(struct call *call, struct chance *c)
@@ -71,6 +78,16 @@ static void spoil_limit(struct call *call, struct chance *c)
     put_word(image_word(call, 0, IND_IMAGE_LIMIT), limit);
 }
 
+static void spoil_counts(struct call *call, struct chance *c)
+{
+    uint32_t counts[COUNTS];
+
+    for (uint32_t i = 0; i < COUNTS; i++)
+        counts[i] = get_word(image_word(call, 0, IND_IMAGE_TAKEN + i));
+    unbalance(c, counts);
+    put_counts(call, counts);
+}
+
 static void spoil_cursor(struct call *call, struct chance *c)
 {
     static const uint32_t cursors[5] = {
@@ -106,9 +123,22 @@ static void spoil_frame(struct call *call, struct chance *c)
              mille(c, 700) ? 0 : edge_word(c));
 }
 
+/* One of which something was taken, if there is one. */
+static uint32_t taken_ring(struct call *call, struct chance *c)
+{
+    uint32_t ring = below(c, IND_RINGS);
+
+    for (uint32_t i = 0; i < IND_RINGS; i++) {
+        uint32_t other = (ring + i) % IND_RINGS;
+        if (get_word(image_word(call, other, IND_IMAGE_CURSOR)) != 0)
+            return other;
+    }
+    return ring;
+}
+
 static void spoil_ring(struct call *call, struct chance *c)
 {
-    uint32_t number = below(c, IND_RINGS);
+    uint32_t number = taken_ring(call, c);
     struct piece *ring = &call->pieces[PIECE_RING + number];
     uint32_t cursor = get_word(image_word(call, number, IND_IMAGE_CURSOR));
 
@@ -176,15 +206,22 @@ static void spoil_pack(struct call *call, struct chance *c)
     piece_add(pack, bytes, length);
 }
 
+/* The ways stand in the order of refusals. Of several, one often comes soon
+ * after another there, so that their order shows. */
 void spoil_call(struct call *call, struct chance *c)
 {
     static void (*const ways[])(struct call *, struct chance *) = {
-        spoil_memory, spoil_window, spoil_marker, spoil_limit, spoil_limit,
-        spoil_cursor, spoil_frame, spoil_frame, spoil_ring, spoil_ring,
-        spoil_pipe, spoil_pipe, spoil_pack, spoil_pack, spoil_pack, spoil_pack
+        spoil_memory, spoil_window, spoil_marker, spoil_frame, spoil_frame,
+        spoil_cursor, spoil_counts, spoil_counts, spoil_counts, spoil_limit,
+        spoil_limit, spoil_ring, spoil_ring, spoil_pipe, spoil_pipe, spoil_pack,
+        spoil_pack, spoil_pack, spoil_pack, spoil_pack, spoil_pack
     };
+    const uint32_t all = sizeof ways / sizeof ways[0];
     uint32_t count = mille(c, 600) ? 1 : 2 + below(c, 2);
+    uint32_t way = below(c, all);
 
-    for (; count > 0; count--)
-        ways[below(c, sizeof ways / sizeof ways[0])](call, c);
+    for (; count > 0; count--) {
+        ways[way](call, c);
+        way = (way + (mille(c, 500) ? 2 + below(c, 5) : below(c, all))) % all;
+    }
 }

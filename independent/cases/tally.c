@@ -35,6 +35,8 @@ static const struct {
 static struct {
     uint64_t calls, fresh[2], fresh_with[3], fresh_with_both;
     uint64_t idle, refused[REFUSALS], refused_limit, wrong[WRONGS];
+    uint64_t unequal_sums[2], unequal_alone;
+    uint64_t ring_round[IND_RINGS], outcome_round[IND_OUTCOMES];
     uint64_t outcome[IND_OUTCOMES], opcode_done[OPCODES], row[ROWS];
     uint64_t sight[SIGHTS], steps, most_steps, limit[LIMITS];
     uint64_t with_nulls, null[PIECES];
@@ -132,18 +134,37 @@ static int ran(const struct served *v)
             || v->report.outcome >= IND_NOT_LISTED);
 }
 
-static void tally_served(const struct call *before, const struct call *after)
+/* A count of 4,294,967,295 to which 1 is added. */
+static void count_rounds(const struct served *v)
+{
+    uint32_t ring = v->report.ring, outcome = v->report.outcome;
+
+    count.ring_round[ring] += v->device.taken[ring] == UINT32_MAX;
+    count.outcome_round[outcome] += v->device.outcomes[outcome] == UINT32_MAX;
+}
+
+static struct served served_of(const struct call *before,
+                               const struct call *after)
 {
     struct served v = { .before = before, .after = after };
-    struct trace trace = {{0}, 0, 0, 0};
 
     ind_report_decode(after->pieces[PIECE_REPORT].bytes, &v.report);
     ind_image_decode(before->pieces[PIECE_DEVICE].bytes, &v.device);
     const struct piece *ring = &before->pieces[PIECE_RING + v.report.ring];
-    const struct ind_ring *own = &v.device.rings[v.report.ring];
-    if (!ind_command_whole(ring->bytes, ring->length, own->cursor, &v.command))
+    if (!ind_command_whole(ring->bytes, ring->length,
+                           v.device.rings[v.report.ring].cursor, &v.command))
         abort();
+    return v;
+}
+
+static void tally_served(const struct call *before, const struct call *after)
+{
+    struct served v = served_of(before, after);
+    const struct ind_ring *own = &v.device.rings[v.report.ring];
+    struct trace trace = {{0}, 0, 0, 0};
+
     count.outcome[v.report.outcome]++;
+    count_rounds(&v);
     see_served(&v, count.sight);
     for (int i = 0; i < OPCODES; i++)
         count.opcode_done[i] += v.report.outcome == IND_DONE
@@ -180,6 +201,21 @@ static void tally_making(const struct call *after, uint32_t answer)
         && limit_outside(call_limit(after));
 }
 
+/* Whether the call is not refused so with counts of 0. */
+static int counts_alone(const struct call *before, uint32_t answer)
+{
+    struct call *mended = call_new();
+    struct piece *image = &mended->pieces[PIECE_DEVICE];
+
+    call_copy(mended, before);
+    memset(image->bytes + WORD * IND_IMAGE_TAKEN, 0,
+           IND_IMAGE_BYTES - WORD * IND_IMAGE_TAKEN);
+    call_make(mended, ind_fv_fresh, ind_fv_fresh_with, ind_fv_turn);
+    int alone = call_answer(mended) != answer;
+    call_free(mended);
+    return alone;
+}
+
 static void tally_refused(const struct call *before, uint32_t answer)
 {
     struct ind_device device;
@@ -188,6 +224,10 @@ static void tally_refused(const struct call *before, uint32_t answer)
     count.refused[answer - IND_REFUSED_MEMORY]++;
     count.refused_limit += answer == IND_REFUSED_STATE
         && limit_outside(device.limit);
+    if (ind_counts_agree(&device))
+        return;
+    count.unequal_sums[answer - IND_REFUSED_MEMORY]++;
+    count.unequal_alone += (uint64_t)counts_alone(before, answer);
 }
 
 void tally_call(const struct call *before, const struct call *after)
@@ -207,6 +247,18 @@ void tally_call(const struct call *before, const struct call *after)
     } else {
         tally_served(before, after);
     }
+}
+
+int tally_first_full(const struct call *before, const struct call *after)
+{
+    uint64_t seen[SIGHTS] = {0};
+
+    if (after->kind != CALL_TURN || call_answer(after) != IND_SERVED)
+        return 0;
+    struct served v = served_of(before, after);
+    see_served(&v, seen);
+    return (seen[SEEN_FULL_RING] != 0 && count.sight[SEEN_FULL_RING] == 0)
+        || (seen[SEEN_FULL_CODE] != 0 && count.sight[SEEN_FULL_CODE] == 0);
 }
 
 /* ---- the table ---- */
@@ -277,6 +329,14 @@ static int table_of(FILE *out)
     title(out, "calls with a limit of steps outside its bounds");
     missing += line(out, "fresh_with 101", count.fresh_with_both);
     missing += line(out, "refused 102", count.refused_limit);
+    title(out, "calls with counts of commands whose sums differ");
+    missing += lines(out, "refused %u", IND_REFUSED_MEMORY, count.unequal_sums,
+                     2);
+    missing += line(out, "refused 102, for nothing else", count.unequal_alone);
+    title(out, "calls in which a count of commands goes round to 0");
+    missing += lines(out, "of ring %u", 0, count.ring_round, IND_RINGS);
+    missing += lines(out, "of outcome %u", 0, count.outcome_round,
+                     IND_OUTCOMES);
     title(out, "calls that ran a kernel, by the limit of steps");
     missing += limit_lines(out);
     title(out, "calls that show");

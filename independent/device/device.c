@@ -58,7 +58,8 @@ uint32_t ind_fresh(struct ind_device *device, uint64_t memory_len,
 
 static int state_refused(const struct ind_device *device)
 {
-    if (device->marker >= IND_RINGS || !limit_fits(device->limit))
+    if (device->marker >= IND_RINGS || !limit_fits(device->limit)
+        || !ind_counts_agree(device))
         return 1;
     for (uint32_t i = 0; i < IND_RINGS; i++) {
         const struct ind_ring *ring = &device->rings[i];
@@ -132,6 +133,7 @@ static void serve(struct ind_device *device, uint32_t ring,
 
     device->rings[ring].cursor += command->size;
     device->marker = (ring + 1) % IND_RINGS;
+    ind_count(device, ring, outcome);
     report->ring = ring;
     report->outcome = outcome;
     /* A failed command still signals, unless it has no slot to signal in. */

@@ -78,6 +78,8 @@ struct ind_device {
     uint32_t slots[IND_SLOTS];
     uint32_t marker;
     uint32_t limit; /* of steps */
+    uint32_t taken[IND_RINGS];       /* commands, a count for each ring */
+    uint32_t outcomes[IND_OUTCOMES]; /* the same, a count for each outcome */
 };
 
 struct ind_report {

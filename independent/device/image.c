@@ -33,6 +33,10 @@ void ind_image_encode(const struct ind_device *device, uint8_t *image)
         put_next(&image, device->slots[i]);
     put_next(&image, device->marker);
     put_next(&image, device->limit);
+    for (uint32_t i = 0; i < IND_RINGS; i++)
+        put_next(&image, device->taken[i]);
+    for (uint32_t i = 0; i < IND_OUTCOMES; i++)
+        put_next(&image, device->outcomes[i]);
 }
 
 void ind_image_decode(const uint8_t *image, struct ind_device *device)
@@ -51,6 +55,10 @@ void ind_image_decode(const uint8_t *image, struct ind_device *device)
         device->slots[i] = get_next(&image);
     device->marker = get_next(&image);
     device->limit = get_next(&image);
+    for (uint32_t i = 0; i < IND_RINGS; i++)
+        device->taken[i] = get_next(&image);
+    for (uint32_t i = 0; i < IND_OUTCOMES; i++)
+        device->outcomes[i] = get_next(&image);
 }
 
 void ind_report_encode(const struct ind_report *report, uint8_t *bytes)

@@ -118,6 +118,11 @@ uint32_t ind_work_fault(const struct ind_device *device, uint32_t ring,
                         const struct ind_command *command,
                         const struct ind_lent *lent);
 
+/* ---- counts.c: commands taken ---- */
+
+int ind_counts_agree(const struct ind_device *device);
+void ind_count(struct ind_device *device, uint32_t ring, uint32_t outcome);
+
 /* ---- work.c: a faultless command's work ---- */
 
 uint32_t ind_work(struct ind_device *device, uint32_t ring,

@@ -11,7 +11,11 @@
 #include "device/image.h"
 #include "records/records.h"
 
-enum { LONGEST = 80000 }; /* a body's bytes: the whole set is to stay small */
+/* A body's bytes: the whole set is to stay small. */
+enum {
+    LONGEST = 20000,
+    FULL_LONGEST = 80000 /* of the first with a full ring or a full code */
+};
 
 static uint64_t by_kind[CASE_KINDS], bytes_written;
 static struct share share;
@@ -24,7 +28,8 @@ static int record_case(uint64_t seed, uint64_t number, struct call *before,
 
     call_copy(after, before);
     call_make(after, ind_fv_fresh, ind_fv_fresh_with, ind_fv_turn);
-    size_t bytes = record_write(stdout, before, after, LONGEST);
+    size_t most = tally_first_full(before, after) ? FULL_LONGEST : LONGEST;
+    size_t bytes = record_write(stdout, before, after, most);
     if (bytes == 0)
         return 0;
     bytes_written += bytes;

@@ -13,7 +13,9 @@ enum {
     BASE = 4 * IND_IMAGE_BASE,
     STRIDE = 4 * IND_IMAGE_STRIDE,
     MARKER = 4 * IND_IMAGE_MARKER,
-    LIMIT = 4 * IND_IMAGE_LIMIT
+    LIMIT = 4 * IND_IMAGE_LIMIT,
+    TAKEN = 4 * IND_IMAGE_TAKEN,
+    OUTCOMES = 4 * IND_IMAGE_OUTCOMES
 };
 
 /* A turn on bytes: four times the same ring, and an empty pack. */
@@ -70,7 +72,8 @@ static void refused_fresh(void)
     CHECK_EQ(ind_fv_fresh(image, sizeof image, windows, sizeof windows, 3),
              101);
     CHECK_EQ(get_word(image + LIMIT), 16384);
-    for (size_t i = 0; i < LIMIT; i++)
+    put_word(image + LIMIT, 0);
+    for (size_t i = 0; i < sizeof image; i++)
         CHECK_EQ(image[i], 0);
 }
 
@@ -95,7 +98,7 @@ static void limit_in_the_image(void)
     uint8_t empty[IND_IMAGE_BYTES] = {0};
 
     CHECK_EQ(IND_IMAGE_LIMIT, 93);
-    CHECK_EQ(IND_IMAGE_BYTES, 376);
+    CHECK_EQ(IND_IMAGE_BYTES, 452);
     put_word(empty + LIMIT, 16384);
     memcpy(made, empty, sizeof made);
     put_word(made + 4, 64);
@@ -161,7 +164,44 @@ static void rough_frames(void)
     put_word(kept + NEXT + HELD, 1);
     put_word(kept + 2 * NEXT + BASE, 0);
     put_word(kept + MARKER, 1);
+    put_word(kept + TAKEN, 1);
+    put_word(kept + OUTCOMES, 1);
     CHECK(memcmp(image, kept, sizeof kept) == 0);
+}
+
+/* Words 94 to 97 count by ring, words 98 to 112 by outcome: each is read, for
+ * the sums, and the two of a served turn are written. */
+static void counts_in_the_image(void)
+{
+    const uint8_t barrier[IND_HEADER_BYTES] = {0x22};
+    size_t whole = sizeof barrier, report_len = IND_REPORT_BYTES;
+    uint8_t image[IND_IMAGE_BYTES], kept[IND_IMAGE_BYTES];
+    uint8_t report[IND_REPORT_BYTES];
+
+    CHECK_EQ(IND_IMAGE_TAKEN, 94);
+    CHECK_EQ(IND_IMAGE_OUTCOMES, 98);
+    CHECK_EQ(IND_IMAGE_WORDS, 113);
+    for (uint32_t word = 94; word < 113; word++) {
+        uint32_t other = word < 98 ? 112 : 97;
+        fresh_image(image);
+        put_word(image + MARKER, 2);
+        put_word(image + 4 * word, UINT32_MAX);
+        memcpy(kept, image, sizeof kept);
+        CHECK_EQ(turn(image, sizeof image, barrier, whole, report, report_len),
+                 102);
+        CHECK(memcmp(image, kept, sizeof kept) == 0);
+        put_word(image + 4 * other, UINT32_MAX);
+        memcpy(kept, image, sizeof kept);
+        CHECK_EQ(turn(image, sizeof image, barrier, 0, report, report_len), 1);
+        CHECK(memcmp(image, kept, sizeof kept) == 0);
+        CHECK_EQ(turn(image, sizeof image, barrier, whole, report, report_len),
+                 0);
+        put_word(kept + 2 * NEXT + CURSOR, (uint32_t)whole);
+        put_word(kept + MARKER, 3);
+        put_word(kept + 4 * 96, get_word(kept + 4 * 96) + 1);
+        put_word(kept + 4 * 98, get_word(kept + 4 * 98) + 1);
+        CHECK(memcmp(image, kept, sizeof kept) == 0);
+    }
 }
 
 /* A number of its own in each word: image and report lose none of them. */
@@ -194,4 +234,5 @@ void test_image(void)
     limit_in_the_image();
     limit_through_a_turn();
     rough_frames();
+    counts_in_the_image();
 }

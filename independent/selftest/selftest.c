@@ -173,6 +173,7 @@ static void numbers_of_the_manual(void)
     CHECK_EQ(IND_LIMIT_DEFAULT, 16384);
     CHECK_EQ(IND_RINGS, 4);
     CHECK_EQ(IND_SLOTS, 64);
+    CHECK_EQ(IND_OUTCOMES, 15);
     CHECK_EQ(IND_INPUT_MOST, 61440);
     CHECK_EQ(IND_JOB_WORDS_MOST, 4096);
 }
@@ -194,6 +195,7 @@ int main(void)
     test_turns();
     test_calls();
     test_limits();
+    test_counts();
     test_kernels();
     test_replay();
     test_image();

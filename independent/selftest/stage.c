@@ -191,6 +191,8 @@ void serve_unchanged(struct stage *stage, uint32_t outcome, uint32_t first,
     CHECK_EQ(stage->report.words_read, 0);
     before->device.rings[0].cursor += IND_HEADER_BYTES;
     before->device.marker = 1;
+    before->device.taken[0] += 1;
+    before->device.outcomes[outcome] += 1;
     memcpy(before->device.slots, stage->device.slots,
            sizeof before->device.slots);
     CHECK(stage_same(before, stage));

@@ -94,6 +94,7 @@ void test_commands(void);
 void test_turns(void);
 void test_calls(void);
 void test_limits(void);
+void test_counts(void);
 void test_kernels(void);
 void test_replay(void);
 void test_image(void);

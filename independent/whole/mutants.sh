@@ -1,7 +1,7 @@
 #!/bin/sh
 # mutants.sh BUILD SEED: builds each error of self.c into the comparison, which must tell it, and none, which must not differ.
 # The errors about NULL are built into the comparison of empty pieces too, and errors 18 and 32, which show with an empty
-# piece whether or not it is NULL.
+# piece whether or not it is NULL, and errors 35 and 36, as counts of commands go round there.
 # BUILD: the folder of this folder's objects; CC, CFLAGS and LDFLAGS as for make.
 set -eu
 here=$(cd "$(dirname "$(readlink -f "$0")")" && pwd -P)
@@ -25,10 +25,10 @@ try() { # PROGRAM MUTANT WORD..: the program's last line, or the signal that end
     echo "mutant $mutant, $program: $end"
 }
 
-for error in 0 1 2 3 4 5 6 7 8 9 10 11 12 13 14 15 16 17 18 19 20 21 22 23 24 25 26 27 28 29 30 31 32 33; do
-    try whole $error 20000 "$seed"
+for error in $(seq 0 51); do
+    try whole "$error" 20000 "$seed"
 done
-for error in 0 18 19 20 21 22 32 33; do
+for error in 0 18 19 20 21 22 32 33 35 36; do
     try null $error
 done
 rm -f "$build/mutant" "$build/mutant.out"

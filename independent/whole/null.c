@@ -41,7 +41,8 @@ static void put_command(struct piece *ring, uint32_t which, uint32_t window)
         piece_add_word(ring, 0x01010101 * (i + 1));
 }
 
-/* Four equal rings, in windows that are empty or the whole memory. */
+/* Four equal rings, in windows that are empty or the whole memory. Counts of
+ * commands that go round next, by any ring and by outcome 0. */
 static void put_device(struct piece *image, uint32_t window)
 {
     const struct ind_frame frame = { window != 0, 0, STRIDE, 0 };
@@ -50,6 +51,8 @@ static void put_device(struct piece *image, uint32_t window)
     for (int i = 0; i < IND_RINGS; i++) {
         device.rings[i].window_length = window;
         device.rings[i].frame = frame;
+        device.taken[i] = UINT32_MAX;
+        device.outcomes[i] = UINT32_MAX;
     }
     ind_image_encode(&device, image->bytes);
 }

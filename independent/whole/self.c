@@ -21,7 +21,11 @@ enum {
     HELD = WORD * IND_IMAGE_HELD,
     FRAME_BYTES = WORD * (IND_IMAGE_FORMAT + 1) - HELD,
     MARKER = WORD * IND_IMAGE_MARKER,
-    LIMIT = WORD * IND_IMAGE_LIMIT
+    LIMIT = WORD * IND_IMAGE_LIMIT,
+    TAKEN = WORD * IND_IMAGE_TAKEN,
+    OUTCOMES = WORD * IND_IMAGE_OUTCOMES,
+    LAST_TAKEN = OUTCOMES - WORD,
+    LAST_OUTCOME = IND_IMAGE_BYTES - WORD
 };
 
 /* A turn's pieces, after it and its image before it. */
@@ -123,6 +127,134 @@ static void err_limit(struct turned *t)
         ind_put(t->device + LIMIT, WORD, IND_LIMIT_DEFAULT);
 }
 
+/* ---- counts of commands ---- */
+
+/* Errors of a served turn. */
+static void err_counted(struct turned *t)
+{
+    uint32_t outcome = ind_get(t->report + OUTCOME, WORD);
+    uint32_t ring = ind_get(t->report + RING, WORD);
+    uint8_t *taken = t->device + TAKEN + (size_t)WORD * ring;
+    uint8_t *had = t->device + OUTCOMES + (size_t)WORD * outcome;
+
+    switch (MUTANT) {
+    case 34: /* outcome 5 not counted */
+        if (outcome == IND_SLOT_FULL)
+            memcpy(t->device + TAKEN, t->before + TAKEN,
+                   sizeof t->before - TAKEN);
+        break;
+    case 35: /* a ring's count sticks at the largest */
+        if (ind_get(taken, WORD) == 0)
+            ind_put(taken, WORD, UINT32_MAX);
+        break;
+    case 36: /* an outcome's does */
+        if (ind_get(had, WORD) == 0)
+            ind_put(had, WORD, UINT32_MAX);
+        break;
+    case 37: /* the next ring's */
+        add(taken, UINT32_MAX);
+        add(t->device + TAKEN + (size_t)WORD * ((ring + 1) % IND_RINGS), 1);
+        break;
+    case 38: /* 14 counted as 13 */
+        if (outcome == IND_STEPS_SPENT) {
+            add(had, UINT32_MAX);
+            add(had - WORD, 1);
+        }
+        break;
+    case 39: /* a faulty header counted as done */
+        if (outcome >= IND_NO_OPCODE && outcome <= IND_NO_SLOT) {
+            add(had, UINT32_MAX);
+            add(t->device + OUTCOMES, 1);
+        }
+        break;
+    default:
+        break;
+    }
+}
+
+/* Errors of a turn that is idle or refused. */
+static void err_uncounted(struct turned *t)
+{
+    int idle = t->answer == IND_IDLE;
+
+    if ((MUTANT == 40 && idle)
+        || (MUTANT == 41 && t->answer == IND_REFUSED_PACK)) {
+        add(t->device + TAKEN, 1);
+        add(t->device + OUTCOMES, 1);
+    }
+    if (MUTANT == 42 && idle) /* they start anew */
+        memset(t->device + TAKEN, 0, sizeof t->before - TAKEN);
+}
+
+static uint64_t sum(const uint8_t *first, const uint8_t *end)
+{
+    uint64_t all = 0;
+
+    for (; first < end; first += WORD)
+        all += ind_get(first, WORD);
+    return all;
+}
+
+/* Whether the sums are held to be different, by a wrong rule. */
+static int held_unequal(const uint8_t *image)
+{
+    uint64_t taken = sum(image + TAKEN, image + OUTCOMES);
+    uint64_t outcomes = sum(image + OUTCOMES, image + IND_IMAGE_BYTES);
+
+    switch (MUTANT) {
+    case 43: /* not modulo 4,294,967,296 */
+        return taken != outcomes;
+    case 44: /* without the last outcome */
+        outcomes -= ind_get(image + LAST_OUTCOME, WORD);
+        break;
+    case 45: /* without the last ring */
+        taken -= ind_get(image + LAST_TAKEN, WORD);
+        break;
+    case 46: /* not compared */
+        return 0;
+    case 47: /* compared as 16 bits */
+        return (uint16_t)taken != (uint16_t)outcomes;
+    case 48: /* fewer by outcome let through */
+        return (uint32_t)taken < (uint32_t)outcomes;
+    default:
+        break;
+    }
+    return (uint32_t)taken != (uint32_t)outcomes;
+}
+
+/* Brings counts into the image that are judged as the wrong rule has it. What
+ * they were comes back after the turn. */
+static void misjudge(uint8_t *image)
+{
+    int unequal = held_unequal(image);
+
+    memset(image + TAKEN, 0, IND_IMAGE_BYTES - TAKEN);
+    add(image + TAKEN, (uint32_t)unequal);
+}
+
+static void restore_counts(struct turned *t)
+{
+    memcpy(t->device + TAKEN, t->before + TAKEN, sizeof t->before - TAKEN);
+    if (t->answer == IND_SERVED) {
+        add(t->device + TAKEN + WORD * ind_get(t->report + RING, WORD), 1);
+        add(t->device + OUTCOMES + WORD * ind_get(t->report + OUTCOME, WORD),
+            1);
+    }
+}
+
+/* Errors of a making. */
+static void err_made(uint8_t *device, const uint8_t *before, uint32_t answer)
+{
+    if (MUTANT == 49 && answer == 0) { /* a fresh one is counted */
+        add(device + TAKEN, 1);
+        add(device + OUTCOMES, 1);
+    }
+    if (MUTANT == 50 && answer == 0) /* the counts not written */
+        memcpy(device + TAKEN, before + TAKEN, IND_IMAGE_BYTES - TAKEN);
+    if (MUTANT == 51 && answer != 0 && answer < IND_WRONG_IMAGE)
+        memcpy(device + TAKEN, before + TAKEN, IND_IMAGE_BYTES - TAKEN);
+}
+
 uint32_t fv_fresh(uint8_t *device, size_t device_len, const uint8_t *windows,
                   size_t windows_len, uint64_t memory_len)
 {
@@ -142,6 +274,7 @@ uint32_t fv_fresh(uint8_t *device, size_t device_len, const uint8_t *windows,
         memcpy(device, before, sizeof before);
     if (MUTANT == 25 && answer == 0) /* 4,096 where none is named */
         ind_put(device + LIMIT, WORD, 4096);
+    err_made(device, before, answer);
     return answer;
 }
 
@@ -181,8 +314,11 @@ uint32_t fv_fresh_with(uint8_t *device, size_t device_len,
                        const uint8_t *windows, size_t windows_len,
                        uint64_t memory_len, uint32_t limit)
 {
+    uint8_t before[IND_IMAGE_BYTES] = {0};
     uint32_t asked = limit;
 
+    if (device_len == sizeof before)
+        memcpy(before, device, sizeof before);
     if (MUTANT == 26 && limit == IND_LIMIT_MOST + 1)
         asked = IND_LIMIT_MOST;
     if (MUTANT == 27 && limit == 0)
@@ -193,6 +329,7 @@ uint32_t fv_fresh_with(uint8_t *device, size_t device_len,
         return IND_WRONG_IMAGE; /* refused before a length is asked */
     uint32_t answer = ind_fv_fresh_with(device, device_len, windows,
                                         windows_len, memory_len, asked);
+    err_made(device, before, answer);
     return err_limited(device, limit, answer);
 }
 
@@ -217,14 +354,23 @@ uint32_t fv_turn(uint8_t *device, size_t device_len, uint8_t *memory,
         return IND_WRONG_REPORT; /* asked first */
     if (device_len == sizeof t.before)
         memcpy(t.before, device, sizeof t.before);
+    int misjudged = MUTANT >= 43 && MUTANT <= 48
+        && device_len == sizeof t.before && report_len == IND_REPORT_BYTES;
+    if (misjudged)
+        misjudge(device);
     t.answer = ind_fv_turn(device, device_len, memory, memory_len, ring0,
                            ring0_len, ring1, ring1_len, ring2, ring2_len,
                            ring3, ring3_len, pack, pack_len, pipe, pipe_len,
                            report, report_len);
+    if (misjudged)
+        restore_counts(&t);
     err_limit(&t);
-    if (t.answer == IND_SERVED)
+    if (t.answer == IND_SERVED) {
         err_served(&t);
-    else if (t.answer < IND_WRONG_IMAGE)
+        err_counted(&t);
+    } else if (t.answer < IND_WRONG_IMAGE) {
         err_unserved(&t);
+        err_uncounted(&t);
+    }
     return t.answer;
 }

@@ -3,7 +3,7 @@
 use mathlib.Core.Path.{_≡_, refl}
 use mathlib.Core.Bool.{Bool, true, false}
 use mathlib.Core.List.{List, [], _∷_, _++_}
-use Prim.Native.Nat.{ℕ, _^_, _<_}
+use Prim.Native.Nat.{ℕ, suc, _^_, _<_}
 use native.Mathlib.Omega.{arith}
 use lib.Dec.{eqb, lit<}
 use borrow.Author.Tests.{eqb-true, eqb-false}
@@ -21,7 +21,7 @@ use Rattle.work.proofs.Performs.{performed-has}
 use Rattle.state.specs.declared.device.Window.{Window}
 use Rattle.state.specs.declared.device.Ring.{Ring}
 use Rattle.state.specs.declared.device.Device.{Device}
-use Rattle.state.specs.Device.{Shaped, SlotsFit, emptyWindow, defaultLimit, freshDevice, emptyDevice, ringOf, slotOf, withRing, withMarker}
+use Rattle.state.specs.Device.{Shaped, SlotsFit, CountsFit, emptyWindow, defaultLimit, freshDevice, emptyDevice, ringOf, slotOf, commandsOf, outcomesOf, withRing, withMarker, withCounts}
 use Rattle.device.specs.Turn.{ringIn, unchanged, ringAfter, deviceAfter, finished, servedOf}
 use Rattle.state.proofs.Seeks.{next-below}
 use Rattle.state.proofs.Limits.{limit-within}
@@ -29,10 +29,11 @@ use Rattle.device.proofs.Verdicts.{each-of-four}
 use Rattle.device.proofs.Turns.{turn-cases, picked-servable}
 use Rattle.command.proofs.Sizes.{whole-inside}
 use Rattle.device.proofs.Untaken.{served-ring, other-ring}
-use Rattle.device.proofs.Shapes.{emit-fits, after-limit, after-shaped, fresh-shaped, made-each}
-use Rattle.capi.specs.Image.{heldOf, baseOf, formatOf, ringWords, ringsWords, wordsOf, windowAt}
+use Rattle.device.proofs.Shapes.{emit-fits, after-limit, after-counts-fit, after-shaped, fresh-shaped, made-each}
+use Rattle.capi.specs.Image.{heldOf, baseOf, formatOf, ringWords, ringsWords, countsWords, windowAt}
 use Rattle.capi.specs.Inverse.{OfBytes, Formed}
 use Rattle.capi.specs.Follows.{FreshForms, TurnForms}
+use Rattle.capi.proofs.Sizes.{lastWords, words-split}
 use Rattle.capi.proofs.Fits.{Fits, fits-none, fits-more, fits-both, fits-left, fits-right, fits-zeros}
 
 -- what is below 2^32 in a frame, and in a ring
@@ -51,30 +52,41 @@ frame-in : (r : Ring) → Fits (ringWords r) → FrameFits (r .frame)
 unfolding ringWords
 frame-in r h = record { held = h .at 3; base = h .at 4; stride = h .at 5; format = h .at 6 }
 
--- a device whose rings, slots, marker and limit fit
+-- a device whose rings, slots, marker, limit and counts fit
 module _ (d : Device) where
   pub formed : Shaped d → ((q : ℕ) → q < 4 → Fits (ringWords (ringOf d q))) → Fits (d .slots) → d .marker < 2 ^ 32
-      → d .limit < 2 ^ 32 → Formed d
-  unfolding wordsOf ringsWords
-  formed shaped rings slots marker limit = record {
+      → d .limit < 2 ^ 32 → CountsFit d → Formed d
+  unfolding ringsWords countsWords commandsOf outcomesOf
+  formed shaped rings slots marker limit counts = record {
     shaped = shaped;
-    fit = fits-both (ringsWords d ++ d .slots)
+    fit = rw (words-split d) (fits-both (ringsWords d ++ d .slots)
         (fits-both (ringsWords d)
         (fits-both (ringWords (ringOf d 0) ++ ringWords (ringOf d 1) ++ ringWords (ringOf d 2))
         (fits-both (ringWords (ringOf d 0) ++ ringWords (ringOf d 1)) (fits-both (ringWords (ringOf d 0)) (rings 0 (lit< tt)) (rings 1 (lit< tt))) (rings 2 (lit< tt)))
         (rings 3 (lit< tt)))
         slots)
-        (fits-more marker (fits-more limit fits-none)) .at;
+        (fits-more marker (fits-more limit
+        (fits-both (d .counts .commands) (record { at = counts .commands }) (record { at = counts .outcomes })))) .at);
   }
 
   module _ (is : Formed d) where
-    before-marker : Fits (ringsWords d ++ d .slots)
-    unfolding wordsOf
-    before-marker = fits-left (ringsWords d ++ d .slots) (d .marker ∷ d .limit ∷ []) (record { at = is .fit })
+    all : Fits (ringsWords d ++ d .slots ++ lastWords d)
+    all = record { at = rw (words-split d) at (is .fit) }
+
+    last-in : Fits (lastWords d)
+    last-in = fits-right (ringsWords d ++ d .slots) all
 
     limit-in : d .limit < 2 ^ 32
-    unfolding wordsOf
-    limit-in = fits-right (ringsWords d ++ d .slots) {ys = d .marker ∷ d .limit ∷ []} (record { at = is .fit }) .at 1
+    limit-in = last-in .at 1
+
+    counts-in : CountsFit d
+    unfolding countsWords commandsOf outcomesOf
+    counts-in =
+        let counts : Fits (d .counts .commands ++ d .counts .outcomes) = record { at = λ k. last-in .at (suc (suc k)) } in
+        record { commands = fits-left (d .counts .commands) (d .counts .outcomes) counts .at; outcomes = fits-right (d .counts .commands) counts .at }
+
+    before-marker : Fits (ringsWords d ++ d .slots)
+    before-marker = fits-left (ringsWords d ++ d .slots) (lastWords d) all
 
     slots-in : Fits (d .slots)
     slots-in = fits-right (ringsWords d) before-marker
@@ -136,12 +148,13 @@ module _ (d : Device) (q : ℕ) (c : Command) (p : Performed) (is : Formed d) (f
       go false e = rw (other-ring d q c p j (eqb-false j q e)) (rings-in d is j h)
 
   after-formed : Formed (deviceAfter d q c p)
-  unfolding deviceAfter withMarker withRing
+  unfolding deviceAfter withCounts withMarker withRing
   after-formed =
       formed (deviceAfter d q c p) (after-shaped d q c p (is .shaped)) ring-after
       (slots-row _ (emit-fits (emits c (p .outcome)) (withRing d q (ringAfter (ringOf d q) c (p .frame))) (c .rdst) (row-slots _ (slots-in d is))))
       (omega (arith, next-below q four))
       (rw (after-limit d q c p) (limit-in d is))
+      (after-counts-fit d q c p (counts-in d is))
 
 pub turn-forms : TurnForms
 unfolding servedOf finished unchanged ringAfter
@@ -162,11 +175,11 @@ fresh-ring w h = ring-fits _ (h .0) (h .1) (omega arith) (record { held = omega 
 
 fresh-formed : (w0 w1 w2 w3 : Window) (limit : ℕ) → WindowFits w0 → WindowFits w1 → WindowFits w2 → WindowFits w3 → limit < 2 ^ 32
     → Formed (freshDevice w0 w1 w2 w3 limit)
-unfolding freshDevice ringOf
+unfolding freshDevice ringOf commandsOf outcomesOf
 fresh-formed w0 w1 w2 w3 limit h0 h1 h2 h3 h =
     formed (freshDevice w0 w1 w2 w3 limit) (fresh-shaped w0 w1 w2 w3 limit)
     (each-of-four (λ q. Fits (ringWords (ringOf (freshDevice w0 w1 w2 w3 limit) q))) (fresh-ring w0 h0) (fresh-ring w1 h1) (fresh-ring w2 h2) (fresh-ring w3 h3))
-    (fits-zeros 64) (omega arith) h
+    (fits-zeros 64) (omega arith) h (record { commands = fits-zeros 4 .at; outcomes = fits-zeros 15 .at })
 
 empty-formed : Formed emptyDevice
 unfolding emptyDevice

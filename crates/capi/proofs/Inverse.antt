@@ -1,21 +1,22 @@
 -- An image says all of a device, and a device all of an image in normal form.
 -- Assumes nothing.
-use mathlib.Core.Path.{_≡_, refl, _∙_}
+use mathlib.Core.Path.{_≡_, refl, ap, _∙_}
 use mathlib.Core.List.{List, [], _∷_, _++_}
-use Prim.Native.Nat.{ℕ, _+_}
+use Prim.Native.Nat.{ℕ, _+_, _≤_}
 use native.Mathlib.Nat.{add-zero, zero-add}
 use native.Mathlib.Omega.{arith}
-use lib.ListN.{length, getD}
-use lib.Seq.{take-all, take-at, getD-append-add}
+use lib.ListN.{length, getD, take, drop}
+use lib.Seq.{take-all, take-at, drop-at, drop-append-add}
 use Rattle.command.specs.declared.frame.Frame.{Frame}
 use Rattle.command.specs.declared.frame.Frame.the-variants.{Unset, Held}
 use Rattle.command.specs.Frame.{strideOf}
 use Rattle.state.specs.declared.device.Ring.{Ring}
+use Rattle.state.specs.declared.device.Device.{Device}
 use Rattle.state.specs.Device.{emptyWindow, freshRing, ringOf}
-use Rattle.capi.specs.Image.{wordIn, wordsIn, heldOf, baseOf, formatOf, ringWords, ringsWords, wordsOf, encode, frameOf, windowAt, ringAt, decode, imageLength, imageWords, limitAt, markerAt, slotsAt}
+use Rattle.capi.specs.Image.{wordIn, wordsIn, heldOf, baseOf, formatOf, ringWords, ringsWords, countsWords, wordsOf, encode, frameOf, windowAt, ringAt, countsIn, decode, imageLength, imageWords, outcomesAt, commandsAt, limitAt, markerAt, slotsAt}
 use Rattle.capi.specs.Inverse.{Normal, NormalFrame, held, unset, DecodeEncode, EncodeDecode}
-use Rattle.capi.proofs.Sizes.{words-length}
-use Rattle.capi.proofs.WordBytes.{word-in-bytes, words-in-bytes, words-in-append, bytes-of-words-in}
+use Rattle.capi.proofs.Sizes.{lastWords, words-split, words-length}
+use Rattle.capi.proofs.WordBytes.{words-in-bytes, words-in-append, bytes-of-words-in}
 
 frame-back : (f : Frame) → frameOf (heldOf f) (baseOf f) (strideOf f) (formatOf f) ≡ f
 unfolding frameOf
@@ -44,25 +45,44 @@ four x (a ∷ b ∷ []) h = absurd (omega arith)
 four x (a ∷ b ∷ c ∷ []) h = absurd (omega arith)
 four x (a ∷ b ∷ c ∷ d ∷ e ∷ rs) h = absurd (omega arith)
 
+-- the marker and the limit are two words in a row
+marker-and-limit : (image : List ℕ) → wordIn image markerAt ∷ wordIn image limitAt ∷ [] ≡ wordsIn image markerAt 2
+unfolding wordsIn
+marker-and-limit image = refl
+
+marker-back : (image : List ℕ) (d : Device) → wordsIn image markerAt 2 ≡ d .marker ∷ d .limit ∷ [] → wordIn image markerAt ≡ d .marker
+marker-back image d e = let words = marker-and-limit image ∙ e in cc words
+
+limit-back : (image : List ℕ) (d : Device) → wordsIn image markerAt 2 ≡ d .marker ∷ d .limit ∷ [] → wordIn image limitAt ≡ d .limit
+limit-back image d e = let words = marker-and-limit image ∙ e in cc words
+
 pub decode-encode : DecodeEncode
-unfolding decode encode wordsOf ringsWords ringWords ringOf
+unfolding decode encode ringsWords ringWords ringOf countsWords countsIn
 decode-encode d formed =
-    let size = words-length d (formed .shaped .slots) in
-    let row = words-in-bytes (wordsOf d) (formed .fit) in
-    let past-slots : (k : ℕ) → getD (d .slots ++ (d .marker ∷ d .limit ∷ [])) (64 + k) 0 ≡ getD (d .marker ∷ d .limit ∷ []) k 0 =
-    λ k. rw (formed .shaped .slots) at (getD-append-add (d .slots) (d .marker ∷ d .limit ∷ []) k 0) in
-    let slots : wordsIn (encode d) slotsAt 64 ≡ d .slots = row slotsAt 64 (omega arith) ∙ take-at (d .slots) (d .marker ∷ d .limit ∷ []) 64 (formed .shaped .slots) in
-    let marker : wordIn (encode d) markerAt ≡ d .marker = word-in-bytes (wordsOf d) markerAt (omega arith) (formed .fit markerAt) ∙ past-slots 0 in
-    let limit : wordIn (encode d) limitAt ≡ d .limit = word-in-bytes (wordsOf d) limitAt (omega arith) (formed .fit limitAt) ∙ past-slots 1 in
+    let shaped = formed .shaped in
+    let size = words-length d shaped in
+    let row : (k n : ℕ) → k + n ≤ imageWords → wordsIn (encode d) k n ≡ take n (drop k (ringsWords d ++ d .slots ++ lastWords d)) =
+    λ k n inside. words-in-bytes (wordsOf d) (formed .fit) k n (omega arith) ∙ rw (words-split d) in
+    let past-slots : (n k : ℕ) → take n (drop (64 + k) (d .slots ++ lastWords d)) ≡ take n (drop k (lastWords d)) =
+    λ n k. ap (take n) (rw (shaped .slots) at (drop-append-add (d .slots) (lastWords d) k)) in
+    let slots : wordsIn (encode d) slotsAt 64 ≡ d .slots = row slotsAt 64 (omega arith) ∙ take-at (d .slots) (lastWords d) 64 (shaped .slots) in
+    let numbers : wordsIn (encode d) markerAt 2 ≡ d .marker ∷ d .limit ∷ [] = row markerAt 2 (omega arith) ∙ past-slots 2 0 in
+    let commands : wordsIn (encode d) commandsAt 4 ≡ d .counts .commands =
+    row commandsAt 4 (omega arith) ∙ past-slots 4 2 ∙ take-at (d .counts .commands) (d .counts .outcomes) 4 (shaped .commands) in
+    let outcomes : wordsIn (encode d) outcomesAt 15 ≡ d .counts .outcomes =
+    row outcomesAt 15 (omega arith) ∙ past-slots 15 6 ∙ ap (take 15) (drop-at (d .counts .commands) (d .counts .outcomes) 4 (shaped .commands))
+    ∙ take-all 15 (d .counts .outcomes) (omega (arith, shaped .outcomes)) in
     rw (
       ring-back (encode d) 0 (ringOf d 0) (row 0 7 (omega arith)),
       ring-back (encode d) 7 (ringOf d 1) (row 7 7 (omega arith)),
       ring-back (encode d) 14 (ringOf d 2) (row 14 7 (omega arith)),
       ring-back (encode d) 21 (ringOf d 3) (row 21 7 (omega arith)),
       slots,
-      marker,
-      limit,
-      four (freshRing emptyWindow) (d .rings) (formed .shaped .rings),
+      marker-back (encode d) d numbers,
+      limit-back (encode d) d numbers,
+      commands,
+      outcomes,
+      four (freshRing emptyWindow) (d .rings) (shaped .rings),
     )
 
 frame-words : {h b s f : ℕ} → NormalFrame h b s f
@@ -81,9 +101,9 @@ ring-words-in image k normal = rw (add-zero k, frame-words normal)
 joined : (image : List ℕ) (k n : ℕ) {xs ys : List ℕ} → xs ≡ wordsIn image 0 k → ys ≡ wordsIn image k n → xs ++ ys ≡ wordsIn image 0 (k + n)
 joined image k n first second = rw (first, second) (rw (zero-add k) at (words-in-append image 0 k n))
 
-last-words : (image : List ℕ) → wordIn image markerAt ∷ wordIn image limitAt ∷ [] ≡ wordsIn image markerAt 2
-unfolding wordsIn
-last-words image = refl
+counts-back : (image : List ℕ) → countsWords (countsIn image) ≡ wordsIn image commandsAt 19
+unfolding countsWords countsIn
+counts-back image = words-in-append image commandsAt 4 15
 
 all-words : (image : List ℕ) → Normal image → wordsOf (decode image) ≡ wordsIn image 0 imageWords
 unfolding wordsOf ringsWords decode ringOf
@@ -92,7 +112,8 @@ all-words image normal =
     let r1 = ring-words-in image 7 (normal .frames 1 (omega arith)) in
     let r2 = ring-words-in image 14 (normal .frames 2 (omega arith)) in
     let r3 = ring-words-in image 21 (normal .frames 3 (omega arith)) in
-    joined image markerAt 2 (joined image slotsAt 64 (joined image 21 7 (joined image 14 7 (joined image 7 7 r0 r1) r2) r3) refl) (last-words image)
+    let rings = joined image 21 7 (joined image 14 7 (joined image 7 7 r0 r1) r2) r3 in
+    joined image commandsAt 19 (joined image markerAt 2 (joined image slotsAt 64 rings refl) (marker-and-limit image)) (counts-back image)
 
 pub encode-decode : EncodeDecode
 unfolding encode

@@ -1,4 +1,5 @@
--- The image of a device: little-endian words. Each ring has seven, then come the 64 slots, the marker and the limit.
+-- The image of a device: little-endian words. Each ring has seven, then come the 64 slots, the marker, the limit, the commands
+-- that each ring has taken and a count for each outcome.
 use mathlib.Core.Bool.{cond}
 use Prim.Native.Nat.{ℕ, zero, suc, _+_, _*_}
 use mathlib.Core.List.{List, [], _∷_, _++_}
@@ -8,6 +9,7 @@ use Rattle.memory.specs.Place.{wordAt}
 use Rattle.command.specs.declared.frame.Frame.{Frame}
 use Rattle.command.specs.declared.frame.Frame.the-variants.{Unset, Held}
 use Rattle.command.specs.Frame.{strideOf}
+use Rattle.state.specs.declared.counts.Counts.{Counts}
 use Rattle.state.specs.declared.device.Window.{Window}
 use Rattle.state.specs.declared.device.Ring.{Ring}
 use Rattle.state.specs.declared.device.Device.{Device}
@@ -17,7 +19,7 @@ use Rattle.state.specs.Device.{deviceOf, ringOf}
 abbrev pub ringSize : ℕ
 ringSize = 7
 
--- the words where the slots, the marker and the limit stand, and how many words and bytes there are
+-- the words where the slots, the marker, the limit and the counts stand, and how many words and bytes there are
 abbrev pub slotsAt : ℕ
 slotsAt = 4 * ringSize
 
@@ -27,8 +29,14 @@ markerAt = slotsAt + 64
 abbrev pub limitAt : ℕ
 limitAt = markerAt + 1
 
+abbrev pub commandsAt : ℕ
+commandsAt = limitAt + 1
+
+abbrev pub outcomesAt : ℕ
+outcomesAt = commandsAt + 4
+
 abbrev pub imageWords : ℕ
-imageWords = limitAt + 1
+imageWords = outcomesAt + 15
 
 abbrev pub imageLength : ℕ
 imageLength = 4 * imageWords
@@ -71,9 +79,13 @@ ringWords r =
 unfoldable pub ringsWords : Device → List ℕ
 ringsWords d = ringWords (ringOf d 0) ++ ringWords (ringOf d 1) ++ ringWords (ringOf d 2) ++ ringWords (ringOf d 3)
 
+-- the words of the counts
+unfoldable pub countsWords : Counts → List ℕ
+countsWords counts = counts .commands ++ counts .outcomes
+
 -- a device's words
 unfoldable pub wordsOf : Device → List ℕ
-wordsOf d = ringsWords d ++ d .slots ++ (d .marker ∷ d .limit ∷ [])
+wordsOf d = ringsWords d ++ d .slots ++ (d .marker ∷ d .limit ∷ []) ++ countsWords (d .counts)
 
 -- a device's image
 unfoldable pub encode : Device → List ℕ
@@ -95,8 +107,12 @@ ringAt image k = record {
   frame = frameOf (wordIn image (k + 3)) (wordIn image (k + 4)) (wordIn image (k + 5)) (wordIn image (k + 6));
 }
 
+-- the counts of an image
+unfoldable pub countsIn : List ℕ → Counts
+countsIn image = record { commands = wordsIn image commandsAt 4; outcomes = wordsIn image outcomesAt 15 }
+
 -- the device of an image
 unfoldable pub decode : List ℕ → Device
 decode image =
     deviceOf (ringAt image 0 ∷ ringAt image 7 ∷ ringAt image 14 ∷ ringAt image 21 ∷ []) (wordsIn image slotsAt 64) (wordIn image markerAt)
-    (wordIn image limitAt)
+    (wordIn image limitAt) (countsIn image)

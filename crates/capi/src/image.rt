@@ -3,19 +3,21 @@ ghost use mathlib.Core.Path.{_≡_};
 ghost use Prim.Native.Nat.{_+_, _*_, _≤_};
 ghost use lib.ListN.{length};
 ghost use lib.Seq.{sets};
-ghost use Rattle.capi.specs.Image.{ringSize, slotsAt, imageLength, bytesOf, heldOf, baseOf, formatOf, ringWords, ringsWords, frameOf, ringAt, wordsIn, encode, decode};
+ghost use Rattle.capi.specs.Image.{ringSize, slotsAt, commandsAt, imageLength, bytesOf, heldOf, baseOf, formatOf, ringWords, ringsWords, frameOf, ringAt, countsWords, countsIn, encode, decode};
 use crate::lent::put_words;
+use crate::lent::take_words;
 use crate::lent::window_at;
 use crate::lent::word_in;
 use command::frame::Frame;
 use command::frame::stride_of;
+use state::counts::Counts;
 use state::device::Device;
 use state::device::Ring;
 
 // How many words a ring has.
 const RING_WORDS: usize = 7;
 
-// The words where rings 1 to 3 stand, then the slots, the marker and the limit.
+// The words where rings 1 to 3 stand, then the slots, the marker, the limit, the commands taken and the outcomes.
 const RING_1_AT: usize = RING_WORDS;
 
 const RING_2_AT: usize = 2 * RING_WORDS;
@@ -28,7 +30,11 @@ const MARKER_AT: usize = SLOTS_AT + 64;
 
 const LIMIT_AT: usize = MARKER_AT + 1;
 
-pub const IMAGE_BYTES: usize = 4 * (LIMIT_AT + 1);
+const COMMANDS_AT: usize = LIMIT_AT + 1;
+
+const OUTCOMES_AT: usize = COMMANDS_AT + 4;
+
+pub const IMAGE_BYTES: usize = 4 * (OUTCOMES_AT + 15);
 
 fn held_of(frame: Frame) -> u32
     ensures { λ r. ⌜ r ≡ heldOf frame ⌝ }
@@ -103,6 +109,14 @@ fn put_rings(image: &mut [u8], d: Device)
     put_ring(image, RING_3_AT, d.ring(3));
 }
 
+fn put_counts(image: &mut [u8], counts: Counts)
+    requires { ⌜ length (now image) ≡ imageLength ⌝ }
+    ensures { λ _. ⌜ now (image .exit) ≡ sets (now (image .entry)) (4 * commandsAt) (bytesOf (countsWords counts)) ⌝ }
+{
+    put_words(image, COMMANDS_AT, &counts.commands);
+    put_words(image, OUTCOMES_AT, &counts.outcomes);
+}
+
 pub fn put_device(image: &mut [u8], d: Device)
     requires { ⌜ length (now image) ≡ imageLength ⌝ }
     ensures { λ _. ⌜ now (image .exit) ≡ encode d ⌝ }
@@ -112,6 +126,7 @@ pub fn put_device(image: &mut [u8], d: Device)
     put_words(image, SLOTS_AT, &slots);
     let marker_and_limit = [d.marker, d.limit];
     put_words(image, MARKER_AT, &marker_and_limit);
+    put_counts(image, d.counts);
 }
 
 fn frame_of(held: u32, base: u32, stride: u32, format: u32) -> Frame
@@ -144,15 +159,15 @@ fn ring_at(image: &[u8], k: usize) -> Ring
     }
 }
 
-fn slots_of(image: &[u8]) -> [u32; 64]
+fn counts_in(image: &[u8]) -> Counts
     requires { ⌜ length (now image) ≡ imageLength ⌝ }
-    ensures { λ r. ⌜ r ≡ wordsIn (now (image .entry)) slotsAt 64 ⌝ }
+    ensures { λ r. ⌜ r ≡ countsIn (now (image .entry)) ⌝ }
 {
-    let mut slots = [0; 64];
-    for i in 0..64 {
-        slots[i] = word_in(image, SLOTS_AT + i);
-    }
-    slots
+    let mut commands = [0; 4];
+    let mut outcomes = [0; 15];
+    take_words(&mut commands, image, COMMANDS_AT);
+    take_words(&mut outcomes, image, OUTCOMES_AT);
+    Counts { commands, outcomes }
 }
 
 pub fn device_in(image: &[u8]) -> Device
@@ -165,8 +180,9 @@ pub fn device_in(image: &[u8]) -> Device
         ring_at(image, RING_2_AT),
         ring_at(image, RING_3_AT),
     ];
-    let slots = slots_of(image);
+    let mut slots = [0; 64];
+    take_words(&mut slots, image, SLOTS_AT);
     let marker = word_in(image, MARKER_AT);
     let limit = word_in(image, LIMIT_AT);
-    Device::of(rings, slots, marker, limit)
+    Device::of(rings, slots, marker, limit, counts_in(image))
 }

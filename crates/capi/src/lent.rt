@@ -3,7 +3,7 @@ ghost use mathlib.Core.Path.{_≡_};
 ghost use Prim.Native.Nat.{_+_, _*_, _≤_};
 ghost use lib.ListN.{length};
 ghost use lib.Seq.{sets};
-ghost use Rattle.capi.specs.Image.{bytesOf, wordIn, windowAt};
+ghost use Rattle.capi.specs.Image.{bytesOf, wordIn, wordsIn, windowAt};
 use memory::place::put_word;
 use memory::place::word_at;
 use state::device::Window;
@@ -32,5 +32,15 @@ pub fn put_words(bytes: &mut [u8], k: usize, words: &[u32])
 {
     for i in 0..words.len() {
         put_word(bytes, 4 * k + 4 * i, words[i]);
+    }
+}
+
+// The words from word k on become those that are lent.
+pub fn take_words(words: &mut [u32], bytes: &[u8], k: usize)
+    requires { ⌜ 4 * k + 4 * length (now words) ≤ length (now bytes) ⌝ }
+    ensures { λ _. ⌜ now (words .exit) ≡ wordsIn (now (bytes .entry)) k (length (now (words .entry))) ⌝ }
+{
+    for i in 0..words.len() {
+        words[i] = word_in(bytes, k + i);
     }
 }

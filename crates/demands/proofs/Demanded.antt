@@ -6,17 +6,20 @@ use Rattle.demands.specs.FourTurns.{FourTurns, FourTurnsByHead}
 use Rattle.demands.specs.Keeps.{TurnKeeps}
 use Rattle.demands.specs.Sound.{TurnStaysSound}
 use Rattle.demands.specs.Reports.{TurnReports}
+use Rattle.demands.specs.Counts.{TurnCounts, CallsCount}
 use Rattle.demands.specs.Bounded.{TurnsBounded, IdleInTime}
 use Rattle.demands.specs.EachStep.{EachStep}
 use Rattle.demands.specs.Demanded.{Demanded}
 use Rattle.demands.proofs.Demands as demands
 
 pub demanded : (d : Device) → ByType d → Demanded d
-unfolding TurnKeeps TurnStaysSound TurnReports EachStep FourTurns FourTurnsByHead TurnsBounded IdleInTime
+unfolding TurnKeeps TurnStaysSound TurnReports TurnCounts CallsCount EachStep FourTurns FourTurnsByHead TurnsBounded IdleInTime
 demanded d typed = record {
   keeps = λ call. demands.turn-keeps d call;
-  stays-sound = λ call. demands.turn-stays-sound d call;
+  stays-sound = λ call. demands.turn-stays-sound d (typed .shaped) call;
   reports = demands.turn-reports d (typed .shaped) (typed .slots-fit);
+  counting = demands.turn-counts d (typed .shaped);
+  counts = demands.calls-count d (typed .shaped) (typed .counts-fit);
   steps = λ call. demands.each-step d call;
   four-turns = demands.four-turns d (typed .slots-fit);
   four-turns-by-head = demands.four-turns-by-head d (typed .slots-fit);

@@ -4,6 +4,7 @@ use Rattle.demands.specs.Keeps.{TurnKeeps}
 use Rattle.demands.specs.Makings.{FreshMakes}
 use Rattle.demands.specs.Sound.{TurnStaysSound, SoundRefusals, FreshMakesSound, CallsStaySound, FreshStaysSound}
 use Rattle.demands.specs.Reports.{TurnReports}
+use Rattle.demands.specs.Counts.{TurnCounts, CallsCount, FreshCounts}
 use Rattle.demands.specs.Bounded.{TurnsBounded, IdleInTime, FreshIdleInTime}
 use Rattle.demands.specs.Idle.{IdleIsDone}
 use Rattle.demands.specs.EachStep.{EachStep}
@@ -14,6 +15,7 @@ use Rattle.demands.proofs.Keeps as keeps
 use Rattle.demands.proofs.Makings as makings
 use Rattle.demands.proofs.Sound as sound
 use Rattle.demands.proofs.Reports as reports
+use Rattle.demands.proofs.Counts as counts
 use Rattle.demands.proofs.Bounded as bounded
 use Rattle.demands.proofs.Idle as idle
 use Rattle.demands.proofs.EachStep as steps
@@ -47,6 +49,16 @@ fresh-stays-sound = sound.fresh-stays-sound
 -- demand 2: what is reported, and what changes in the device
 pub turn-reports : TurnReports
 turn-reports = reports.turn-reports
+
+-- demand 2: what is counted, on any turn, over any calls, and from fresh over unchanging rings
+pub turn-counts : TurnCounts
+turn-counts = counts.turn-counts
+
+pub calls-count : CallsCount
+calls-count = counts.calls-count
+
+pub fresh-counts : FreshCounts
+fresh-counts = counts.fresh-counts
 
 -- demand 2, down to each step of each thread
 pub each-step : EachStep

@@ -6,20 +6,27 @@ use mathlib.Core.List.{List, [], _∷_}
 use Prim.Native.Nat.{ℕ, zero, suc, _^_, _≤_, _<_}
 use native.Mathlib.Nat.{le-refl}
 use native.Mathlib.Omega.{arith}
+use lib.Dec.{lit<}
 use lib.ListN.{getD, set}
-use lib.Seq.{getD-set-other}
+use lib.Seq.{getD-set-same, getD-set-other}
 use Rattle.command.specs.declared.header.Command.{Command}
 use Rattle.work.specs.declared.work.Performed.{Performed}
+use Rattle.command.specs.declared.outcome.Outcome.{Outcome}
+use Rattle.command.specs.Outcome.{outcomeNumber}
 use Rattle.command.specs.Report.{emits}
 use Rattle.state.specs.declared.device.Ring.{Ring}
 use Rattle.state.specs.declared.device.Device.{Device}
 use borrow.Author.Tests.{eq-eqb}
-use Rattle.state.specs.Slots.{isFull, emitted, emittedIn}
-use Rattle.state.specs.Device.{SlotsFit, emptyWindow, freshRing, ringOf, slotOf, withRing, withSlots, withMarker}
+use Rattle.state.specs.PlusOne.{plusOneAt}
+use Rattle.state.specs.Slots.{isFull, emitted}
+use Rattle.state.specs.Counts.{counted, balanced}
+use Rattle.state.specs.Device.{Shaped, SlotsFit, emptyWindow, freshRing, ringOf, slotOf, commandsOf, outcomesOf, withRing, withSlots, withMarker, withCounts}
 use Rattle.state.specs.Ready.{nextRing}
 use Rattle.device.specs.Turn.{emitTo, ringAfter, deviceAfter}
 use Rattle.device.proofs.Untaken.{rings-after}
-use Rattle.device.proofs.Shapes.{put-each, emit-fits}
+use Rattle.state.proofs.Totals.{counted-balanced}
+use Rattle.device.proofs.Shapes.{put-each, emit-fits, after-counts}
+use Rattle.demands.specs.Counts.{CountsOne}
 
 -- a number put in one place of a list, no less than what it held, lowers no place
 put-rises : (xs : List ℕ) (n v m : ℕ) → getD xs n 0 ≤ v → getD xs m 0 ≤ getD (set xs n v) m 0
@@ -31,7 +38,7 @@ put-rises (x ∷ xs) (suc n) v (suc m) h = put-rises xs n v m h
 
 pub emit-rises : (b : Bool) (d : Device) (n : ℕ) → SlotsFit d → (b ≡ true → isFull (slotOf d n) ≡ true → ⊥) → (m : ℕ)
     → slotOf d m ≤ slotOf (emitTo b d n) m
-unfolding emitTo withSlots emittedIn slotOf SlotsFit
+unfolding emitTo withSlots plusOneAt slotOf SlotsFit
 emit-rises true d n fit room m =
     let below : getD (d .slots) n 0 < 2 ^ 32 = fit n in
     let not-full : getD (d .slots) n 0 ≡ 4294967295 → ⊥ = λ is. room refl (eq-eqb _ _ is) in
@@ -42,17 +49,17 @@ emit-rises false d n fit room m = le-refl _
 module _ (d : Device) (q : ℕ) (c : Command) (p : Performed) where
   -- the marker becomes the ring after the served one
   pub after-marker : deviceAfter d q c p .marker ≡ nextRing q
-  unfolding deviceAfter withMarker
+  unfolding deviceAfter withCounts withMarker
   after-marker = refl
 
   -- no slot is lowered
   pub after-rises : SlotsFit d → (emits c (p .outcome) ≡ true → isFull (slotOf d (c .rdst)) ≡ true → ⊥) → (m : ℕ)
       → slotOf d m ≤ slotOf (deviceAfter d q c p) m
-  unfolding deviceAfter withMarker withRing slotOf SlotsFit
+  unfolding deviceAfter withCounts withMarker withRing slotOf SlotsFit
   after-rises fit room m = emit-rises (emits c (p .outcome)) (withRing d q (ringAfter (ringOf d q) c (p .frame))) (c .rdst) fit room m
 
   pub after-fits : SlotsFit d → SlotsFit (deviceAfter d q c p)
-  unfolding deviceAfter withMarker withRing slotOf SlotsFit
+  unfolding deviceAfter withCounts withMarker withRing slotOf SlotsFit
   after-fits fit = emit-fits (emits c (p .outcome)) (withRing d q (ringAfter (ringOf d q) c (p .frame))) (c .rdst) fit
 
   -- what holds of the served ring after its command, if it is ring n, and held of ring n, holds of ring n
@@ -72,11 +79,11 @@ module _ (d : Device) (q : ℕ) (c : Command) (p : Performed) where
 
   -- an emit puts the new number in its slot, and nothing else changes a slot
   pub after-emit : emits c (p .outcome) ≡ true → deviceAfter d q c p .slots ≡ set (d .slots) (c .rdst) (emitted (slotOf d (c .rdst)))
-  unfolding deviceAfter withMarker withRing emitTo withSlots emittedIn slotOf
+  unfolding deviceAfter withCounts withMarker withRing emitTo withSlots plusOneAt slotOf
   after-emit e = rw e
 
   pub after-no-emit : emits c (p .outcome) ≡ false → deviceAfter d q c p .slots ≡ d .slots
-  unfolding deviceAfter withMarker withRing emitTo withSlots
+  unfolding deviceAfter withCounts withMarker withRing emitTo withSlots
   after-no-emit e = rw e
 
   pub after-other-slot : (n : ℕ) → (n ≡ c .rdst → ⊥) → slotOf (deviceAfter d q c p) n ≡ slotOf d n
@@ -86,3 +93,40 @@ module _ (d : Device) (q : ℕ) (c : Command) (p : Performed) where
       go : (b : Bool) → emits c (p .outcome) ≡ b → getD (deviceAfter d q c p .slots) n 0 ≡ getD (d .slots) n 0
       go true e = rw (after-emit e) (getD-set-other (d .slots) (c .rdst) n _ 0 other)
       go false e = rw (after-no-emit e)
+
+pub outcome-below : (o : Outcome) → outcomeNumber o < 15
+outcome-below Outcome.Done = lit< tt
+outcome-below Outcome.UnknownOpcode = lit< tt
+outcome-below Outcome.ReservedFlag = lit< tt
+outcome-below Outcome.WrongPayloadBit = lit< tt
+outcome-below Outcome.NoSuchSlot = lit< tt
+outcome-below Outcome.SlotFull = lit< tt
+outcome-below Outcome.Misaligned = lit< tt
+outcome-below Outcome.NoFrame = lit< tt
+outcome-below Outcome.OutsideTheWindow = lit< tt
+outcome-below Outcome.BadFrame = lit< tt
+outcome-below Outcome.BadDispatch = lit< tt
+outcome-below Outcome.NotListed = lit< tt
+outcome-below Outcome.OffTheKernel = lit< tt
+outcome-below Outcome.AccessOutside = lit< tt
+outcome-below Outcome.OutOfSteps = lit< tt
+
+module _ (d : Device) (q : ℕ) (c : Command) (p : Performed) (shaped : Shaped d) (four : q < 4) where
+  -- the command is counted
+  pub after-counts-one : CountsOne d q (outcomeNumber (p .outcome)) (deviceAfter d q c p)
+  unfolding commandsOf outcomesOf counted plusOneAt
+  after-counts-one =
+      let told = after-counts d q c p in
+      record {
+        ring = rw told (getD-set-same (d .counts .commands) q _ 0 (omega (arith, shaped .commands)));
+        other-rings = λ n other. rw told (getD-set-other (d .counts .commands) q n _ 0 other);
+        outcome = rw told (getD-set-same (d .counts .outcomes) _ _ 0 (omega (arith, shaped .outcomes, outcome-below (p .outcome))));
+        other-outcomes = λ n other. rw told (getD-set-other (d .counts .outcomes) _ n _ 0 other);
+      }
+
+  -- so the two sums still agree
+  pub after-balanced : balanced (d .counts) ≡ true → balanced (deviceAfter d q c p .counts) ≡ true
+  after-balanced agree =
+      rw (after-counts d q c p)
+      (counted-balanced (d .counts) q (outcomeNumber (p .outcome)) (omega (arith, shaped .commands))
+      (omega (arith, shaped .outcomes, outcome-below (p .outcome))) agree)

@@ -23,7 +23,7 @@ use Rattle.demands.proofs.Devices.{after-frames}
 
 module _ (d : Device) (call : Call) where
   -- a turn that serves no ring
-  not-served-same : 1 ≤ numberIn d call → Same d call (turnOf d call)
+  pub not-served-same : 1 ≤ numberIn d call → Same d call (turnOf d call)
   unfolding unchanged servedOf finished reportOf valuesOf
   not-served-same =
       turn-cases d call (λ a. 1 ≤ answerNumber (a .turned .answer) → Same d call a)

@@ -14,6 +14,7 @@ pub mod Served
 pub mod Bounded
 pub mod Orders
 pub mod Idle
+pub mod Counts
 pub mod Demands
 pub mod Demanded
 pub mod Table

@@ -32,7 +32,7 @@ use Rattle.demands.specs.Reports.{Signals, Interrupts, Reads, SetsFrame,
 use Rattle.device.proofs.Turns.{call-steady}
 use Rattle.demands.proofs.Turns.{workIn, WasServed, served-as}
 use Rattle.demands.proofs.Works.{full-slot-stays, frame-set, frame-kept}
-use Rattle.demands.proofs.Devices.{after-marker, after-fits, after-emit, after-no-emit, after-other-slot}
+use Rattle.demands.proofs.Devices.{after-marker, after-fits, after-emit, after-no-emit, after-other-slot, after-counts-one}
 use Rattle.demands.proofs.Emitting.{emits-in-range}
 use Rattle.state.specs.Slots.{isFull}
 
@@ -121,6 +121,7 @@ module _ (d : Device) (q : ℕ) (c : Command) (p : Performed) (shaped : Shaped d
     other-rings = other-ring d q c p;
     marker = after-marker d q c p;
     limit = after-limit d q c p;
+    counts = after-counts-one d q c p shaped four;
   }
 
 -- the values of a served turn's report

@@ -8,7 +8,7 @@ use Prim.Native.Nat.{ℕ, _+_, _≤_, _<_}
 use native.Mathlib.Omega.{arith}
 use lib.Dec.{leb, lit≤, lit<}
 use lib.ListN.{length}
-use borrow.Author.Tests.{le-leb, lt-leb}
+use borrow.Author.Tests.{eqb-true, le-leb, lt-leb}
 use Rattle.memory.proofs.Window.{window-length}
 use Rattle.command.specs.Outcome.{isDone}
 use Rattle.command.specs.Frame.{heldFault}
@@ -20,7 +20,8 @@ use Rattle.state.specs.declared.refusal.Refusal.{Refusal}
 use Rattle.state.specs.declared.refusal.Verdict.{Verdict}
 use Rattle.state.specs.declared.refusal.Verdict.the-variants.{Sound, Refused}
 use Rattle.state.specs.declared.ready.Picked.the-variants.{Ring as RingOf}
-use Rattle.state.specs.Device.{emptyWindow, freshDevice, emptyDevice, defaultLimit, ringOf, slotOf}
+use Rattle.state.specs.Counts.{total, balanced}
+use Rattle.state.specs.Device.{Shaped, emptyWindow, freshDevice, emptyDevice, defaultLimit, ringOf, slotOf}
 use Rattle.device.specs.Answer.{answerNumber}
 use Rattle.state.specs.Refusal.{refusalNumber, windowFits, memoryFits, windowsFit, ringSound, limitFits, stateSound, verdictOf}
 use Rattle.state.proofs.Limits.{default-fits, limit-unfit}
@@ -32,35 +33,46 @@ use Rattle.command.proofs.Sizes.{whole-inside}
 use Rattle.demands.specs.Calls.{headIn, answerOf, leftBy, none, more}
 use Rattle.demands.specs.EachStep.{windowIn}
 use Rattle.demands.specs.Sound.{StaysSound, TurnStaysSound, RefusedForLent, SoundRefusals, FreshMakesSound, CallsStaySound, FreshStaysSound, MakesSound, lentRingsFit}
-use Rattle.device.proofs.Shapes.{after-limit}
+use Rattle.device.proofs.Shapes.{after-limit, turn-shaped, made-shaped}
 use Rattle.device.proofs.Turns.{servedIn, turn-cases, picked-servable, turn-refused}
 use Rattle.demands.proofs.Turns.{workIn}
-use Rattle.demands.proofs.Devices.{after-marker, after-ring, after-windows}
+use Rattle.demands.proofs.Devices.{after-marker, after-ring, after-windows, after-balanced}
 use Rattle.state.specs.Slots.{isFull}
 use Rattle.pack.specs.Kernels.{soundPack}
+
+-- what a sound state's own numbers pass
+abbrev numbers : Device → Bool
+numbers d = leb (d .marker) 3 && limitFits (d .limit) && balanced (d .counts)
 
 -- a sound state has four sound rings
 rings-sound : (d : Device) → stateSound d ≡ true → (q : ℕ) → q < 4 → ringSound (ringOf d q) ≡ true
 unfolding stateSound
-rings-sound d sound = all-four (λ p. ringSound (ringOf d p)) (both-right (leb (d .marker) 3 && limitFits (d .limit)) _ sound)
+rings-sound d sound = all-four (λ p. ringSound (ringOf d p)) (both-right (numbers d) _ sound)
 
--- and a limit that fits
+-- a limit that fits
 limit-sound : (d : Device) → stateSound d ≡ true → limitFits (d .limit) ≡ true
 unfolding stateSound
-limit-sound d sound = both-right (leb (d .marker) 3) _ (both-left (leb (d .marker) 3 && limitFits (d .limit)) _ sound)
+limit-sound d sound =
+    both-right (leb (d .marker) 3) _ (both-left (leb (d .marker) 3 && limitFits (d .limit)) _ (both-left (numbers d) _ sound))
 
--- a state of four sound rings, its marker among them, under a limit that fits is sound
-sound-if : (d : Device) → d .marker < 4 → limitFits (d .limit) ≡ true → ((q : ℕ) → q < 4 → ringSound (ringOf d q) ≡ true) → stateSound d ≡ true
+-- and counts whose sums agree
+counts-sound : (d : Device) → stateSound d ≡ true → balanced (d .counts) ≡ true
 unfolding stateSound
-sound-if d marker limit rings =
-    rw (le-leb (d .marker) 3 (omega arith), limit, rings 0 (lit< tt), rings 1 (lit< tt), rings 2 (lit< tt), rings 3 (lit< tt))
+counts-sound d sound = both-right (leb (d .marker) 3 && limitFits (d .limit)) _ (both-left (numbers d) _ sound)
+
+-- a state with its marker among four sound rings, a limit that fits and such counts is sound
+sound-if : (d : Device) → d .marker < 4 → limitFits (d .limit) ≡ true → balanced (d .counts) ≡ true
+    → ((q : ℕ) → q < 4 → ringSound (ringOf d q) ≡ true) → stateSound d ≡ true
+unfolding stateSound
+sound-if d marker limit counts rings =
+    rw (le-leb (d .marker) 3 (omega arith), limit, counts, rings 0 (lit< tt), rings 1 (lit< tt), rings 2 (lit< tt), rings 3 (lit< tt))
 
 -- what holds of the numbers that a verdict may give
 abbrev Numbers : (ℕ → Type 0) → Verdict → Type 0
 Numbers P Sound = (n : ℕ) → n ≤ 1 → P n
 Numbers P (Refused why) = P (refusalNumber why)
 
-module _ (d : Device) (call : Call) where
+module _ (d : Device) (shaped : Shaped d) (call : Call) where
   -- the ring that a turn served is sound: its cursor ends in its bytes, and its frame is one that SET_FB did not refuse
   module _ (q : ℕ) (sound : verdictOn d call ≡ Sound) (pick : pickIn d call ≡ RingOf q) (state : stateSound d ≡ true) where
     cursor-inside : ringOf d q .cursor + headIn d call q .size ≤ 65536
@@ -84,6 +96,7 @@ module _ (d : Device) (call : Call) where
         let p = workIn d call q .performed in
         sound-if _ (rw (after-marker d q c p) (next-below q (picked-servable d call q sound pick .number)))
         (rw (after-limit d q c p) (limit-sound d state))
+        (after-balanced d q c p shaped (picked-servable d call q sound pick .number) (counts-sound d state))
         (λ n four.
         after-ring d q c p (λ r. ringSound r ≡ true) n (λ e. rw (le-leb _ 65536 cursor-inside, frame-passes)) (rings-sound d state n four))
 
@@ -95,6 +108,16 @@ module _ (d : Device) (call : Call) where
       (λ sound p. state)
       (λ q sound p. served-sound q sound p state)
 
+  left-balanced : balanced (d .counts) ≡ true → balanced (leftBy d call .counts) ≡ true
+  unfolding unchanged servedOf finished
+  left-balanced agree =
+      turn-cases d call (λ a. balanced (a .turned .device .counts) ≡ true)
+      (λ why v. agree)
+      (λ sound p. agree)
+      (λ q sound p.
+      after-balanced d q (headIn d call q) (workIn d call q .performed) shaped (picked-servable d call q sound p .number) agree)
+
+module _ (d : Device) (call : Call) where
   left-windows : (n : ℕ) → ringOf (leftBy d call) n .window ≡ ringOf d n .window
   unfolding unchanged servedOf finished
   left-windows n =
@@ -149,22 +172,26 @@ module _ (d : Device) (call : Call) where
       number-has (λ n. n ≡ k → ⊥) (λ e same. memory e (sym same)) (λ e same. state e (sym same))
       (λ same. omega arith) (λ same. omega arith) (λ same. omega arith) (λ n h same. omega arith)
 
-  -- a limit that does not fit is refused where the windows do
-  limit-refused : windowsFit d (length (call .memory)) ≡ true → (d .limit ≡ 0) ⊎ (65536 < d .limit) → verdictOn d call ≡ Refused Refusal.State
+  -- a state that is not sound is refused where the windows fit
+  unsound-refused : windowsFit d (length (call .memory)) ≡ true → (stateSound d ≡ true → ⊥) → answerNumber (answerOf d call) ≡ 102
   unfolding verdictOn verdictOf
-  limit-refused fits outside =
-      let unfit = limit-unfit (d .limit) outside in
-      let unsound = not-held (stateSound d) (λ sound. let fits-too = limit-sound d sound in let z : _≡_ {A = ℕ} 0 1 = cc in omega arith) in
-      rw (fits, unsound)
+  unsound-refused fits unsound = refused-number {why = Refusal.State} (rw (fits, not-held (stateSound d) unsound))
 
-  stays-sound : StaysSound d call
-  stays-sound = record {
-    state = left-sound;
+  stays-sound : Shaped d → StaysSound d call
+  unfolding balanced
+  stays-sound shaped = record {
+    state = left-sound d shaped call;
     windows = left-windows;
     fits = left-fits;
     not-102 = λ state. number-not 102 (lit≤ tt) (lit≤ tt) (λ e same. omega arith) (λ e same. let z : _≡_ {A = ℕ} 0 1 = cc in omega arith);
     not-101 = λ fits. number-not 101 (lit≤ tt) (lit≤ tt) (λ e same. let z : _≡_ {A = ℕ} 0 1 = cc in omega arith) (λ e same. omega arith);
-    limit-102 = λ fits outside. refused-number {why = Refusal.State} (limit-refused fits outside);
+    limit-102 = λ fits outside.
+        unsound-refused fits (λ sound.
+        let unfit = limit-unfit (d .limit) outside in
+        let fits-too = limit-sound d sound in
+        let z : _≡_ {A = ℕ} 0 1 = cc in omega arith);
+    counts-102 = λ fits differ. unsound-refused fits (λ sound. differ (eqb-true _ _ (counts-sound d sound)));
+    counts = left-balanced d shaped call;
   }
 
   refused-for-lent : stateSound d ≡ true → windowsFit d (length (call .memory)) ≡ true → RefusedForLent d call
@@ -178,14 +205,14 @@ module _ (d : Device) (call : Call) where
 
 pub turn-stays-sound : TurnStaysSound
 unfolding TurnStaysSound
-turn-stays-sound d call = stays-sound d call
+turn-stays-sound d shaped call = stays-sound d call shaped
 
 pub sound-refusals : SoundRefusals
 unfolding SoundRefusals
 sound-refusals d call = refused-for-lent d call
 
 fresh-sound : (w0 w1 w2 w3 : Window) (limit : ℕ) → limitFits limit ≡ true → stateSound (freshDevice w0 w1 w2 w3 limit) ≡ true
-unfolding freshDevice ringOf stateSound ringSound heldFault
+unfolding freshDevice ringOf stateSound ringSound heldFault balanced total
 fresh-sound w0 w1 w2 w3 limit fits = rw fits
 
 fresh-fits : (memory : ℕ) (w0 w1 w2 w3 : Window) (limit : ℕ) → windowsFit (freshDevice w0 w1 w2 w3 limit) memory ≡ memoryFits memory w0 w1 w2 w3
@@ -229,13 +256,13 @@ fresh-makes-sound memory w0 w1 w2 w3 limit = go (memoryFits memory w0 w1 w2 w3) 
 
 pub calls-stay-sound : CallsStaySound
 unfolding CallsStaySound
-calls-stay-sound memory d [] state fits = none
-calls-stay-sound memory d (call ∷ calls) state fits =
-    more (record { not-102 = stays-sound d call .not-102 state; lent = λ same. refused-for-lent d call state (rw same fits) })
-    (calls-stay-sound memory (leftBy d call) calls (left-sound d call state) (left-fits d call memory ∙ fits))
+calls-stay-sound memory d [] shaped state fits = none
+calls-stay-sound memory d (call ∷ calls) shaped state fits =
+    more (record { not-102 = stays-sound d call shaped .not-102 state; lent = λ same. refused-for-lent d call state (rw same fits) })
+    (calls-stay-sound memory (leftBy d call) calls (turn-shaped d call shaped) (left-sound d shaped call state) (left-fits d call memory ∙ fits))
 
 pub fresh-stays-sound : FreshStaysSound
 unfolding FreshStaysSound FreshMakesSound CallsStaySound
 fresh-stays-sound memory w0 w1 w2 w3 limit calls made =
     let fresh = fresh-makes-sound memory w0 w1 w2 w3 limit in
-    calls-stay-sound memory (freshWith memory w0 w1 w2 w3 limit .device) calls (fresh .state) (fresh .windows made)
+    calls-stay-sound memory (freshWith memory w0 w1 w2 w3 limit .device) calls (made-shaped memory w0 w1 w2 w3 limit) (fresh .state) (fresh .windows made)

@@ -21,8 +21,9 @@ use Rattle.kernel.specs.Dispatch.{ranOf, shown, ifDone, threadOf, threadMore, t
 use Rattle.kernel.proofs.Examples as kernel
 use Rattle.kernel.specs.Examples.{afterWord, packOf}
 use Rattle.demands.specs.Table.{framedUnder, colored, OutcomeOn0, oneThread, holding, vector, Table, LeastLimit}
-use Rattle.state.specs.Device.{defaultLimit, freshDevice, ringOf, slotOf, withRing, withSlots, withMarker}
-use Rattle.state.specs.Slots.{emittedIn}
+use Rattle.state.specs.Device.{defaultLimit, freshDevice, ringOf, slotOf, withRing, withSlots, withMarker, withCounts}
+use Rattle.state.specs.PlusOne.{plusOneAt}
+use Rattle.state.specs.Counts.{counted, total, balanced}
 use Rattle.state.specs.Refusal.{windowFits, memoryFits, windowsFit, ringSound, limitFits, stateSound, ringFits, ringsFit, verdictOf}
 use Rattle.state.specs.Ready.{readyWith, readyWhere, readyAt, nextRing, seek, bytesOfRing, pickOf}
 use Rattle.device.specs.Answer.{valuesOf}
@@ -57,7 +58,7 @@ least = (refl, refl, refl)
 
 -- both at once, since they open the same definitions
 worked : Table × LeastLimit
-unfolding valuesOf colored freshDevice ringOf slotOf withRing withSlots emittedIn withMarker windowFits memoryFits windowsFit ringSound limitFits stateSound ringFits ringsFit verdictOf readyWith readyWhere readyAt nextRing seek bytesOfRing pickOf unchanged fenceOf emitTo ringAfter deviceAfter reportOf finished servedOf pickedOf judgedOf verdictOn turnOf rowOf waitSize payloadSize targetAt commandAt isWhole unknownOpcode wrongPayloadBit noSuchSlot headerFault frameMisaligned frameUnfit frameFault heldFault isRectangle sizeOf widthOf heightOf tooNarrow endOf slotFault misaligned unframed outside unfitFrame outOfRange unfitDispatch checkOf emits interrupts wordsRead leaves ranOutcome dispatchedBy afterDispatch heldBy workOf orElse faultOf guarded performedOf after halfAt wordAt withByte withHalf withWord rectangleEnd filledRow filled windowOf putBack kernelCount firstWord kernelWords codeCount liesInCode allBelow soundPack kernelOf
+unfolding valuesOf colored freshDevice ringOf slotOf withRing withSlots plusOneAt withMarker withCounts counted total balanced windowFits memoryFits windowsFit ringSound limitFits stateSound ringFits ringsFit verdictOf readyWith readyWhere readyAt nextRing seek bytesOfRing pickOf unchanged fenceOf emitTo ringAfter deviceAfter reportOf finished servedOf pickedOf judgedOf verdictOn turnOf rowOf waitSize payloadSize targetAt commandAt isWhole unknownOpcode wrongPayloadBit noSuchSlot headerFault frameMisaligned frameUnfit frameFault heldFault isRectangle sizeOf widthOf heightOf tooNarrow endOf slotFault misaligned unframed outside unfitFrame outOfRange unfitDispatch checkOf emits interrupts wordsRead leaves ranOutcome dispatchedBy afterDispatch heldBy workOf orElse faultOf guarded performedOf after halfAt wordAt withByte withHalf withWord rectangleEnd filledRow filled windowOf putBack kernelCount firstWord kernelWords codeCount liesInCode allBelow soundPack kernelOf
 worked = (
   record {
     p1 = ((refl, refl), refl);

@@ -1,10 +1,11 @@
 pub mod Calls
 pub mod Keeps
 pub mod Makings
-pub mod Reports
-pub mod FourTurns
 pub mod Bounded
 pub mod Idle
+pub mod Counts
+pub mod Reports
+pub mod FourTurns
 pub mod Table
 pub mod OneAnswer
 pub mod EachStep

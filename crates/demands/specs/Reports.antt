@@ -13,6 +13,7 @@ use Rattle.device.specs.Answer.{Values}
 use Rattle.state.specs.Ready.{readyAt, nextRing}
 use Rattle.device.specs.Turn.{Call, ringIn}
 use Rattle.demands.specs.Calls.{headIn, leftBy, numberIn, valuesIn}
+use Rattle.demands.specs.Counts.{CountsOne}
 
 -- the command signals: its emit bit is set and the outcome is 0 or 6 to 14
 abbrev pub Signals : Command → ℕ → Type 0
@@ -57,6 +58,8 @@ pub record Reported (d : Device) (q : ℕ) (c : Command) (v : Values) (after : D
   pub marker : after .marker ≡ nextRing q
   -- the limit stays
   pub limit : after .limit ≡ d .limit
+  -- the command is counted
+  pub counts : CountsOne d q (v .outcome) after
 
 -- a served ring was ready, and its head command is reported
 pub record Serving (d : Device) (call : Call) (v : Values) : Type 0 where

@@ -1,5 +1,5 @@
 -- Demand 1: a device stays sound, so a call on its own memory is refused only for what it lends.
-use Prim.Native.Nat.{ℕ, _≤_, _<_}
+use Prim.Native.Nat.{ℕ, _%_, _^_, _≤_, _<_}
 use mathlib.Core.Path.{_≡_}
 use mathlib.Core.Bool.{Bool, true, false}
 use mathlib.Core.List.{List}
@@ -8,7 +8,8 @@ use lib.ListN.{length}
 use Rattle.pack.specs.Kernels.{soundPack}
 use Rattle.state.specs.declared.device.Window.{Window}
 use Rattle.state.specs.declared.device.Device.{Device}
-use Rattle.state.specs.Device.{ringOf}
+use Rattle.state.specs.Counts.{total, balanced}
+use Rattle.state.specs.Device.{Shaped, ringOf}
 use Rattle.device.specs.Answer.{makingNumber}
 use Rattle.state.specs.Refusal.{windowsFit, stateSound, ringsFit}
 use Rattle.device.specs.Fresh.{freshWith}
@@ -29,9 +30,15 @@ pub record StaysSound (d : Device) (call : Call) : Type 0 where
   pub not-101 : windowsFit d (length (call .memory)) ≡ true → numberIn d call ≡ 101 → ⊥
   -- and if the limit is 0 or above 65,536 it is refused as 102
   pub limit-102 : windowsFit d (length (call .memory)) ≡ true → (d .limit ≡ 0) ⊎ (65536 < d .limit) → numberIn d call ≡ 102
+  -- or if the sum of the four counts and the sum of the fifteen differ modulo 4,294,967,296
+  pub counts-102 : windowsFit d (length (call .memory)) ≡ true
+      → (total (d .counts .commands) % 2 ^ 32 ≡ total (d .counts .outcomes) % 2 ^ 32 → ⊥) → numberIn d call ≡ 102
+  -- no answer leaves such sums where they agreed
+  pub counts : balanced (d .counts) ≡ true → balanced (leftBy d call .counts) ≡ true
 
+-- of every device with a count for each ring and each outcome
 unfoldable pub TurnStaysSound : Type 0
-TurnStaysSound = (d : Device) (call : Call) → StaysSound d call
+TurnStaysSound = (d : Device) → Shaped d → (call : Call) → StaysSound d call
 
 -- no ring that a call lends is too long or shorter than its cursor
 abbrev pub lentRingsFit : Device → Call → Bool
@@ -71,7 +78,7 @@ pub record HandedBack (memory : ℕ) (d : Device) (call : Call) : Type 0 where
 -- so is each call, one after another, from a sound state whose windows fit so many bytes
 unfoldable pub CallsStaySound : Type 0
 CallsStaySound =
-    (memory : ℕ) (d : Device) (calls : List Call) → stateSound d ≡ true → windowsFit d memory ≡ true
+    (memory : ℕ) (d : Device) (calls : List Call) → Shaped d → stateSound d ≡ true → windowsFit d memory ≡ true
     → EachCall (HandedBack memory) d calls
 
 -- and from a made device, with the memory's length that it was made for

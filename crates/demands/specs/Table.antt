@@ -19,6 +19,7 @@ use Rattle.command.specs.declared.frame.Frame.the-variants.{Held}
 use Rattle.command.specs.Outcome.{outcomeNumber}
 use Rattle.work.specs.Work.{ranOutcome}
 use Rattle.state.specs.declared.device.Device.{Device}
+use Rattle.state.specs.Counts.{noCounts}
 use Rattle.state.specs.Device.{emptyWindow, freshRing, deviceOf, defaultLimit}
 use Rattle.device.specs.Answer.{answerNumber, noValues, valuesOf}
 use Rattle.device.specs.Turn.{Call, callOf, TurnEnd, turnOf}
@@ -37,7 +38,7 @@ framedUnder limit n m =
     deviceOf
     (record { window = record { start = 0; length = n }; cursor = 0; frame = Held 0 16 0 }
     ∷ freshRing emptyWindow ∷ freshRing emptyWindow ∷ freshRing emptyWindow ∷ [])
-    (replicate 64 0) m limit
+    (replicate 64 0) m limit noCounts
 
 -- under the limit where none is named
 abbrev pub framed : ℕ → ℕ → Device

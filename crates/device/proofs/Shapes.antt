@@ -1,28 +1,26 @@
--- A turn leaves four rings, 64 slots and the limit, and a fresh device has its rings and slots; an emit leaves numbers that fit.
+-- A turn leaves a device's shape and its limit, and a fresh device has its shape; an emit and a count leave numbers that fit.
 -- Assumes nothing.
 use mathlib.Core.Path.{_≡_, refl, ap, _∙_}
 use mathlib.Core.Bool.{Bool, true, false}
 use mathlib.Core.List.{List, [], _∷_}
 use Prim.Native.Nat.{ℕ, zero, suc, _^_, _<_}
 use native.Mathlib.Omega.{arith}
-use lib.ListN.{getD, set, length-set}
+use lib.ListN.{length, getD, set, length-set}
 use Rattle.words.proofs.Choices.{cond-has}
+use Rattle.command.specs.Outcome.{outcomeNumber}
 use Rattle.command.specs.declared.header.Command.{Command}
+use Rattle.command.specs.Report.{emits}
 use Rattle.work.specs.declared.work.Performed.{Performed}
 use Rattle.state.specs.declared.device.Device.{Device}
 use Rattle.state.specs.declared.device.Window.{Window}
 use Rattle.device.specs.declared.fresh.Fresh.{Fresh}
-use Rattle.state.specs.Slots.{emitted, emittedIn}
-use Rattle.state.specs.Device.{Shaped, SlotsFit, slotOf, emptyWindow, withRing, withSlots, withMarker, defaultLimit, freshDevice, emptyDevice}
+use Rattle.state.specs.PlusOne.{plusOne, plusOneAt}
+use Rattle.state.specs.Counts.{counted}
+use Rattle.state.specs.Device.{Shaped, SlotsFit, CountsFit, slotOf, commandsOf, outcomesOf, emptyWindow, withRing, withSlots, withMarker, withCounts, defaultLimit, freshDevice, emptyDevice}
 use Rattle.device.specs.Fresh.{notMade, freshWith}
 use Rattle.state.specs.Refusal.{memoryFits, limitFits}
 use Rattle.device.specs.Turn.{Call, emitTo, deviceAfter, finished, servedOf, unchanged, turnOf}
 use Rattle.device.proofs.Turns.{turn-cases}
-
-after-emit : (b : Bool) (d : Device) (n : ℕ) → Shaped d → Shaped (emitTo b d n)
-unfolding emitTo withSlots emittedIn
-after-emit true d n s = record { rings = s .rings; slots = length-set (d .slots) n _ ∙ s .slots }
-after-emit false d n s = s
 
 -- what holds of a value put in place q, if that is place n, and of what place n held, holds of place n after it
 pub put-each : {A : Type 0} (P : A → Type 0) (other : A) (xs : List A) (q : ℕ) (v : A) (n : ℕ) → (n ≡ q → P v) → P (getD xs n other)
@@ -33,11 +31,24 @@ put-each P other (x ∷ xs) zero v (suc n) new old = old
 put-each P other (x ∷ xs) (suc q) v zero new old = old
 put-each P other (x ∷ xs) (suc q) v (suc n) new old = put-each P other xs q v n (λ e. new (ap suc e)) old
 
--- so an emit leaves numbers that fit
+-- so one more leaves numbers that fit, and as many
+pub one-more-fits : (xs : List ℕ) (n : ℕ) → ((m : ℕ) → getD xs m 0 < 2 ^ 32) → (m : ℕ) → getD (plusOneAt xs n) m 0 < 2 ^ 32
+unfolding plusOneAt
+one-more-fits xs n fit m = put-each (λ x. x < 2 ^ 32) 0 xs n (plusOne (getD xs n 0)) m (λ e. omega arith) (fit m)
+
+one-more-long : (xs : List ℕ) (n : ℕ) → length (plusOneAt xs n) ≡ length xs
+unfolding plusOneAt
+one-more-long xs n = length-set xs n _
+
 pub emit-fits : (b : Bool) (d : Device) (n : ℕ) → SlotsFit d → SlotsFit (emitTo b d n)
-unfolding emitTo withSlots emittedIn slotOf SlotsFit
-emit-fits true d n fit m = put-each (λ x. x < 2 ^ 32) 0 (d .slots) n (emitted (getD (d .slots) n 0)) m (λ e. omega arith) (fit m)
+unfolding emitTo withSlots slotOf SlotsFit
+emit-fits true d n fit m = one-more-fits (d .slots) n fit m
 emit-fits false d n fit m = fit m
+
+emit-long : (b : Bool) (d : Device) (n : ℕ) → length (emitTo b d n .slots) ≡ length (d .slots)
+unfolding emitTo withSlots
+emit-long true d n = one-more-long (d .slots) n
+emit-long false d n = refl
 
 -- an emit changes the slots alone
 pub emit-alone : (b : Bool) (d : Device) (n : ℕ) → emitTo b d n ≡ withSlots d (emitTo b d n .slots)
@@ -47,14 +58,30 @@ emit-alone false d n = refl
 
 -- so no served command changes the limit
 pub after-limit : (d : Device) (q : ℕ) (c : Command) (p : Performed) → deviceAfter d q c p .limit ≡ d .limit
-unfolding deviceAfter withMarker withRing withSlots
+unfolding deviceAfter withCounts withMarker withRing withSlots
 after-limit d q c p = ap (λ after. after .limit) (emit-alone _ _ (c .rdst))
 
+-- and each one is counted
+pub after-counts : (d : Device) (q : ℕ) (c : Command) (p : Performed)
+    → deviceAfter d q c p .counts ≡ counted (d .counts) q (outcomeNumber (p .outcome))
+unfolding deviceAfter withCounts
+after-counts d q c p = refl
+
+pub after-counts-fit : (d : Device) (q : ℕ) (c : Command) (p : Performed) → CountsFit d → CountsFit (deviceAfter d q c p)
+unfolding deviceAfter withCounts counted commandsOf outcomesOf
+after-counts-fit d q c p fit = record {
+  commands = one-more-fits (d .counts .commands) q (fit .commands);
+  outcomes = one-more-fits (d .counts .outcomes) (outcomeNumber (p .outcome)) (fit .outcomes);
+}
+
 pub after-shaped : (d : Device) (q : ℕ) (c : Command) (p : Performed) → Shaped d → Shaped (deviceAfter d q c p)
-unfolding deviceAfter withMarker withRing
-after-shaped d q c p s =
-    let e = after-emit _ _ _ (record { rings = length-set (d .rings) q _ ∙ s .rings; slots = s .slots }) in
-    record { rings = e .rings; slots = e .slots }
+unfolding deviceAfter withCounts counted withMarker withRing withSlots
+after-shaped d q c p s = record {
+  rings = rw (emit-alone _ _ (c .rdst)) (length-set (d .rings) q _ ∙ s .rings);
+  slots = emit-long (emits c (p .outcome)) _ (c .rdst) ∙ s .slots;
+  commands = one-more-long (d .counts .commands) q ∙ s .commands;
+  outcomes = one-more-long (d .counts .outcomes) _ ∙ s .outcomes;
+}
 
 -- so a turn leaves a shaped device shaped
 pub turn-shaped : (d : Device) (call : Call) → Shaped d → Shaped (turnOf d call .turned .device)
@@ -64,7 +91,7 @@ turn-shaped d call s =
 
 pub fresh-shaped : (w0 w1 w2 w3 : Window) (limit : ℕ) → Shaped (freshDevice w0 w1 w2 w3 limit)
 unfolding freshDevice
-fresh-shaped w0 w1 w2 w3 limit = record { rings = refl; slots = refl }
+fresh-shaped w0 w1 w2 w3 limit = record { rings = refl; slots = refl; commands = refl; outcomes = refl }
 
 empty-shaped : Shaped emptyDevice
 unfolding emptyDevice

@@ -17,7 +17,7 @@ use Rattle.command.proofs.Sizes.{size-least}
 use Rattle.state.specs.declared.device.Device.{Device}
 use Rattle.device.specs.declared.turn.Report.{Report}
 use Rattle.device.specs.declared.turn.Answer.the-variants.{Served}
-use Rattle.state.specs.Device.{Shaped, ringOf, withRing, withSlots, withMarker}
+use Rattle.state.specs.Device.{Shaped, ringOf, withRing, withSlots, withMarker, withCounts}
 use Rattle.device.specs.Turn.{Call, ringIn, unchanged, ringAfter, deviceAfter, finished, servedOf, turnOf}
 use Rattle.device.specs.Untaken.{untakenOf, sumOf, untakenIn}
 use Rattle.command.proofs.Sizes.{whole-inside}
@@ -27,7 +27,7 @@ use Rattle.device.proofs.Shapes.{emit-alone}
 module _ (d : Device) (q : ℕ) (c : Command) (p : Performed) where
   -- of the rings, the served one alone is changed
   pub rings-after : deviceAfter d q c p .rings ≡ set (d .rings) q (ringAfter (ringOf d q) c (p .frame))
-  unfolding deviceAfter withMarker withRing withSlots
+  unfolding deviceAfter withCounts withMarker withRing withSlots
   rings-after = ap (λ after. after .rings) (emit-alone _ _ (c .rdst))
 
   pub served-ring : q < length (d .rings) → ringOf (deviceAfter d q c p) q ≡ ringAfter (ringOf d q) c (p .frame)

@@ -16,6 +16,7 @@ use Rattle.state.specs.declared.refusal.Refusal.{Refusal}
 use Rattle.state.specs.declared.refusal.Verdict.the-variants.{Sound, Refused}
 use Rattle.state.specs.declared.ready.Picked.{Picked}
 use Rattle.state.specs.declared.ready.Picked.the-variants.{Ring}
+use Rattle.state.specs.Counts.{balanced}
 use Rattle.state.specs.Device.{ringOf}
 use Rattle.state.specs.Refusal.{windowFits, memoryFits, windowsFit, ringSound, limitFits, stateSound, ringFits, ringsFit, verdictOf}
 use Rattle.state.specs.Ready.{readyWhere, readyAt, nextRing, seek, bytesOfRing, pickOf, Steady}
@@ -71,12 +72,17 @@ module _ (d : Device) (memory : ℕ) (r0 r1 r2 r3 : List ℕ) (pipe : ℕ) (pack
   pub steady : Steady d
   unfolding stateSound ringSound
   steady = record {
-    marker = omega (arith, leb-true (d .marker) 3 (both-left (leb (d .marker) 3) (limitFits (d .limit)) (both-left numbers rings (tests .1))));
+    marker =
+        omega (
+          arith,
+          leb-true (d .marker) 3
+              (both-left (leb (d .marker) 3) (limitFits (d .limit)) (both-left (leb (d .marker) 3 && limitFits (d .limit)) (balanced (d .counts)) (both-left numbers rings (tests .1)))),
+        );
     cursors = λ q h. leb-true _ _ (both-left _ _ (all-four (λ p. ringSound (ringOf d p)) (both-right numbers rings (tests .1)) q h));
   }
     where
       numbers : Bool
-      numbers = leb (d .marker) 3 && limitFits (d .limit)
+      numbers = leb (d .marker) 3 && limitFits (d .limit) && balanced (d .counts)
 
       rings : Bool
       rings = ringSound (ringOf d 0) && ringSound (ringOf d 1) && ringSound (ringOf d 2) && ringSound (ringOf d 3)

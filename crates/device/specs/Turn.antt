@@ -9,6 +9,7 @@ use Rattle.command.specs.declared.header.Command.{Command}
 use Rattle.command.specs.declared.frame.Frame.{Frame}
 use Rattle.work.specs.declared.work.Performed.{Performed}
 use Rattle.command.specs.Header.{commandAt, isWhole}
+use Rattle.command.specs.Outcome.{outcomeNumber}
 use Rattle.work.specs.Perform.{performedOf}
 use Rattle.command.specs.Report.{emits, interrupts, wordsRead}
 use Rattle.state.specs.declared.device.Ring.{Ring}
@@ -22,7 +23,8 @@ use Rattle.device.specs.declared.turn.Answer.{Answer}
 use Rattle.device.specs.declared.turn.Answer.the-variants.{Refused as RefusedFor, Idle, Served}
 use Rattle.device.specs.declared.turn.Turned.{Turned}
 use Rattle.state.specs.Slots.{isFull, emitted, emittedIn}
-use Rattle.state.specs.Device.{ringOf, slotOf, withRing, withSlots, withMarker}
+use Rattle.state.specs.Counts.{counted}
+use Rattle.state.specs.Device.{ringOf, slotOf, withRing, withSlots, withMarker, withCounts}
 use Rattle.state.specs.Refusal.{verdictOf}
 use Rattle.state.specs.Ready.{nextRing, bytesOfRing, pickOf}
 
@@ -77,12 +79,14 @@ emitTo emitting d n = cond emitting (withSlots d (emittedIn (d .slots) n)) d
 unfoldable pub ringAfter : Ring → Command → Frame → Ring
 ringAfter r c frame = record { window = r .window; cursor = r .cursor + c .size; frame = frame }
 
--- the device once ring q's command has had its outcome: the marker becomes the ring after it
+-- the device once ring q's command has had its outcome: the marker becomes the ring after it, and the command is counted
 unfoldable pub deviceAfter : Device → ℕ → Command → Performed → Device
 deviceAfter d q c p =
-    withMarker
+    withCounts
+    (withMarker
     (emitTo (emits c (p .outcome)) (withRing d q (ringAfter (ringOf d q) c (p .frame))) (c .rdst))
-    (nextRing q)
+    (nextRing q))
+    (counted (d .counts) q (outcomeNumber (p .outcome)))
 
 -- what is reported of a served command
 unfoldable pub reportOf : Device → ℕ → Command → Performed → Report

@@ -87,7 +87,8 @@ fn device_after(d: Device, q: u32, command: Command, done: Performed) -> Device
     let emitting = emits_fence(command, outcome);
     let next = emit_to(emitting, d.with_ring(q, ring), command.rdst);
     let marker = next_ring(q);
-    next.with_marker(marker)
+    let counts = d.counts.counted(q, outcome);
+    next.with_marker(marker).with_counts(counts)
 }
 
 fn report_of(d: Device, q: u32, command: Command, done: Performed) -> Report

@@ -5,8 +5,9 @@ use Rattle.job.specs.Parts.{bytesOf}
 use Rattle.spelling.specs.Decimal.{digits, decimal}
 use Rattle.spelling.specs.Line.{lineOf, turnLine, idleLine}
 use Rattle.job.proofs.WholeCase.{its-parts}
-use Rattle.state.specs.Device.{freshDevice, ringOf, slotOf, withRing, withSlots, withMarker}
-use Rattle.state.specs.Slots.{emittedIn}
+use Rattle.state.specs.Device.{freshDevice, ringOf, slotOf, withRing, withSlots, withMarker, withCounts}
+use Rattle.state.specs.PlusOne.{plusOneAt}
+use Rattle.state.specs.Counts.{counted, total, balanced}
 use Rattle.state.specs.Refusal.{windowFits, memoryFits, windowsFit, ringSound, limitFits, stateSound, ringFits, ringsFit, verdictOf}
 use Rattle.state.specs.Ready.{readyWith, readyWhere, readyAt, nextRing, seek, bytesOfRing, pickOf}
 use Rattle.device.specs.Untaken.{untakenOf, sumOf, untakenIn}
@@ -31,5 +32,5 @@ use Rattle.replay.proofs.JobText.{accepted-text}
 use Rattle.words.specs.Choice.{allBelow}
 
 pub whole-case : WholeCase
-unfolding wholeCase bytesOf digits decimal lineOf turnLine idleLine freshDevice ringOf slotOf withRing withSlots emittedIn withMarker windowFits memoryFits windowsFit ringSound limitFits stateSound ringFits ringsFit verdictOf readyWith readyWhere readyAt nextRing seek bytesOfRing pickOf untakenOf sumOf untakenIn freshWith valuesOf unchanged fenceOf emitTo ringAfter deviceAfter reportOf finished servedOf pickedOf judgedOf verdictOn turnOf rowOf waitSize payloadSize targetAt commandAt isWhole unknownOpcode wrongPayloadBit noSuchSlot headerFault heldFault isRectangle slotFault misaligned unframed outside unfitFrame unfitDispatch checkOf emits wordsRead leaves workOf orElse faultOf guarded performedOf wordAt windowOf putBack kernelCount codeCount allBelow soundPack linesOf linesFrom allLines emptyPipe firstCall freshFor playedOn jobText
+unfolding wholeCase bytesOf digits decimal lineOf turnLine idleLine freshDevice ringOf slotOf withRing withSlots plusOneAt withMarker withCounts counted total balanced windowFits memoryFits windowsFit ringSound limitFits stateSound ringFits ringsFit verdictOf readyWith readyWhere readyAt nextRing seek bytesOfRing pickOf untakenOf sumOf untakenIn freshWith valuesOf unchanged fenceOf emitTo ringAfter deviceAfter reportOf finished servedOf pickedOf judgedOf verdictOn turnOf rowOf waitSize payloadSize targetAt commandAt isWhole unknownOpcode wrongPayloadBit noSuchSlot headerFault heldFault isRectangle slotFault misaligned unframed outside unfitFrame unfitDispatch checkOf emits wordsRead leaves workOf orElse faultOf guarded performedOf wordAt windowOf putBack kernelCount codeCount allBelow soundPack linesOf linesFrom allLines emptyPipe firstCall freshFor playedOn jobText
 whole-case = rw (accepted-text wholeCase its-parts)

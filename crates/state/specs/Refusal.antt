@@ -13,6 +13,7 @@ use Rattle.state.specs.declared.refusal.Refusal.{Refusal}
 use Rattle.state.specs.declared.refusal.Refusal.the-variants.{Memory, State, Rings, Pipe, Pack}
 use Rattle.state.specs.declared.refusal.Verdict.{Verdict}
 use Rattle.state.specs.declared.refusal.Verdict.the-variants.{Sound, Refused}
+use Rattle.state.specs.Counts.{balanced}
 use Rattle.state.specs.Device.{ringOf}
 
 -- the number of each refusal
@@ -45,10 +46,10 @@ ringSound r = leb (r .cursor) 65536 && isDone (heldFault (r .frame) (r .window .
 unfoldable pub limitFits : ℕ → Bool
 limitFits limit = leb 1 limit && leb limit 65536
 
--- not 102: the marker is at most 3, the limit fits, and each ring is sound
+-- not 102: the marker is at most 3, the limit fits, the counts' two sums agree, and each ring is sound
 unfoldable pub stateSound : Device → Bool
 stateSound d =
-    (leb (d .marker) 3 && limitFits (d .limit))
+    (leb (d .marker) 3 && limitFits (d .limit) && balanced (d .counts))
     && (ringSound (ringOf d 0) && ringSound (ringOf d 1) && ringSound (ringOf d 2) && ringSound (ringOf d 3))
 
 -- a ring's bytes are not too many, and not fewer than its cursor

@@ -1,7 +1,8 @@
 // The device's state.
 ghost use mathlib.Core.Path.{_≡_};
 ghost use Prim.Native.Nat.{_<_};
-ghost use Rattle.state.specs.Device.{deviceOf, ByType, freshRing, freshDevice, emptyDevice, ringOf, slotOf, withRing, withSlots, withMarker};
+ghost use Rattle.state.specs.Device.{deviceOf, ByType, freshRing, freshDevice, emptyDevice, ringOf, slotOf, withRing, withSlots, withMarker, withCounts};
+use crate::counts::Counts;
 use command::frame::Frame;
 
 // The limit where none is named.
@@ -25,6 +26,7 @@ pub struct Device {
     pub marker: u32,
     // The steps that a thread of a kernel may take.
     pub limit: u32,
+    pub counts: Counts,
 }
 
 fn fresh_ring(window: Window) -> Ring
@@ -39,18 +41,20 @@ fn fresh_ring(window: Window) -> Ring
 
 impl Device {
     // The one place where a device is made; elsewhere a copy is changed field by field.
-    pub fn of(rings: [Ring; 4], slots: [u32; 64], marker: u32, limit: u32) -> Self
-        ensures { λ r. ⌜ r ≡ deviceOf rings slots marker limit ⌝ }
+    pub fn of(rings: [Ring; 4], slots: [u32; 64], marker: u32, limit: u32, counts: Counts) -> Self
+        ensures { λ r. ⌜ r ≡ deviceOf rings slots marker limit counts ⌝ }
     {
         Device {
             rings,
             slots,
             marker,
             limit,
+            counts,
         }
     }
 
-    // Hands the device back: that every device has four rings, 64 slots and numbers of 32 bits is this contract.
+    // Hands the device back: that every device has four rings, 64 slots, four and fifteen counts, and numbers of 32 bits is
+    // this contract.
     pub fn by_type(self) -> Self
         ensures { λ r. ⌜ (r ≡ self) × ByType self ⌝ }
     {
@@ -66,7 +70,7 @@ impl Device {
             fresh_ring(w2),
             fresh_ring(w3),
         ];
-        Device::of(rings, [0; 64], 0, limit)
+        Device::of(rings, [0; 64], 0, limit, Counts::none())
     }
 
     // What a refused making hands out.
@@ -115,6 +119,13 @@ impl Device {
         ensures { λ r. ⌜ r ≡ withMarker self marker ⌝ }
     {
         self.marker = marker;
+        self
+    }
+
+    pub fn with_counts(mut self, counts: Counts) -> Self
+        ensures { λ r. ⌜ r ≡ withCounts self counts ⌝ }
+    {
+        self.counts = counts;
         self
     }
 }

@@ -2,6 +2,7 @@
 ghost use mathlib.Core.Path.{_≡_};
 ghost use mathlib.Core.Bool.{_&&_};
 ghost use Rattle.state.specs.Refusal.{refusalNumber, windowFits, memoryFits, ringSound, limitFits, stateSound, ringFits, ringsFit, windowsFit, verdictOf};
+use crate::counts::balanced;
 use crate::device::Device;
 use crate::device::Ring;
 use crate::device::Window;
@@ -13,7 +14,8 @@ use words::choice::both;
 pub enum Refusal {
     // 101: memory too long, or a window outside it or not in multiples of 4.
     Memory,
-    // 102: marker above 3, limit outside 1 to 65,536, cursor above 65,536, or a held frame that SET_FB would refuse.
+    // 102: marker above 3, limit outside 1 to 65,536, counts whose two sums differ, cursor above 65,536, or a held frame that
+    // SET_FB would refuse.
     State,
     // 103: a ring too long or shorter than its cursor.
     Rings,
@@ -104,7 +106,8 @@ fn state_sound(d: Device) -> bool
         ring_sound(d.ring(2)),
         ring_sound(d.ring(3)),
     );
-    both(both(d.marker <= 3, limit_fits(d.limit)), rings)
+    let numbers = both(both(d.marker <= 3, limit_fits(d.limit)), balanced(d.counts));
+    both(numbers, rings)
 }
 
 fn ring_fits(ring: Ring, length: usize) -> bool

@@ -103,20 +103,22 @@ uint32_t damage_pack(struct chance *c, uint8_t *pack, uint32_t length)
     switch (below(c, 10)) {
     case 0: /* cut */
         return length - (length < 9 ? length : below(c, 9));
-    case 1: /* cut anywhere */
+    case 1: /* its last word cut short */
+        return length - (length < WORD ? 0 : 1 + below(c, WORD - 1));
+    case 2: /* cut anywhere */
         return below(c, length + 1);
-    case 2: /* longer */
+    case 3: /* longer */
         for (uint32_t n = 1 + below(c, PACK_BYTES_BEHIND);
              n > 0 && length < PACK_MOST; n--)
             pack[length++] = (uint8_t)any_word(c);
         return length;
-    case 3: /* a bit */
+    case 4: /* a bit */
         if (head > 0) {
             uint32_t at = below(c, head);
             pack[at] ^= (uint8_t)(1u << below(c, 8));
         }
         return length;
-    case 4: /* a word of its head */
+    case 5: /* a word of its head */
         if (head >= WORD) {
             uint32_t at = below(c, head / WORD) * WORD;
             put_word(pack + at, edge_word(c));

@@ -46,7 +46,8 @@ returns c =
           (rw (← c .before .before .ring4 .ensures) (record { at = c .before .of-every-ring4 .ensures .1 })))
           (slots-row _ (typed .slots-fit))
           (typed .marker-fits)
-          (typed .limit-fits)),
+          (typed .limit-fits)
+          (typed .counts-fit)),
     )
 
 pub of-every-device-spec : {M : Type 1} → statement M

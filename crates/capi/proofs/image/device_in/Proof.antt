@@ -16,8 +16,11 @@ ring-at-requires-3 c κs = search needs
 ring-at-requires-4 : tie.Need-ring-at-requires-4
 ring-at-requires-4 c κs = search needs
 
-slots-of-requires : tie.Need-slots-of-requires
-slots-of-requires c κs = search needs
+slice-aggregate-take-words : tie.Need-slice-aggregate-take-words
+slice-aggregate-take-words c = search needs
+
+take-words-requires : tie.Need-take-words-requires
+take-words-requires c κs = search needs
 
 word-in-requires : tie.Need-word-in-requires
 word-in-requires c κs = search needs
@@ -25,14 +28,17 @@ word-in-requires c κs = search needs
 word-in-requires-2 : tie.Need-word-in-requires-2
 word-in-requires-2 c κs = search needs
 
+counts-in-requires : tie.Need-counts-in-requires
+counts-in-requires c κs = search needs
+
 of-requires : tie.Need-of-requires
 of-requires c κs = search needs
 
 returns : tie.Need-returns
 unfolding decode
 returns c =
-    let rings = c .before .before .before .before in
-    rw (c .of .ensures, rings .before .before .before .ring-at .ensures, rings .before .before .ring-at2 .ensures, rings .before .ring-at3 .ensures, rings .ring-at4 .ensures, c .before .before .before .slots-of .ensures, c .before .before .word-in .ensures, c .before .word-in2 .ensures)
+    let rings = c .before .before .before .before .before .before .before in
+    rw (c .of .ensures, rings .before .before .before .ring-at .ensures, rings .before .before .ring-at2 .ensures, rings .before .ring-at3 .ensures, rings .ring-at4 .ensures, c .before .before .before .before .before .take-words .ensures, c .before .before .before .word-in .ensures, c .before .before .word-in2 .ensures, c .before .counts-in .ensures)
 
 pub device-in-spec : {M : Type 1} → statement M
 device-in-spec =
@@ -42,8 +48,10 @@ device-in-spec =
     ring-at-requires-2
     ring-at-requires-3
     ring-at-requires-4
-    slots-of-requires
+    slice-aggregate-take-words
+    take-words-requires
     word-in-requires
     word-in-requires-2
+    counts-in-requires
     of-requires
     returns)

@@ -4,10 +4,10 @@ use mathlib.Core.List.{[], _∷_, _++_}
 use Prim.Native.Nat.{_+_}
 use lib.ListN.{length, length-append}
 use Rattle.capi.proofs.WordBytes.{words-then, words-whole}
-use Rattle.capi.proofs.Sizes.{rings-length}
+use Rattle.capi.proofs.Sizes.{rings-length, counts-length}
 use native.Mathlib.Omega.{arith}
 use denote.Ref.{now}
-use Rattle.capi.specs.Image.{ringsWords, wordsOf, encode, imageWords, markerAt, slotsAt}
+use Rattle.capi.specs.Image.{ringsWords, countsWords, wordsOf, encode, imageWords, commandsAt, markerAt, slotsAt}
 use borrow.Author.Needs.{needs}
 use Rattle.capi.proofs.image.put_device.Statement.{statement}
 use Rattle.capi.proofs.image.put_device.Tie as tie
@@ -27,19 +27,32 @@ slice-aggregate-put-words-2 c = search needs
 put-words-requires-2 : tie.Need-put-words-requires-2
 put-words-requires-2 c κs = search needs
 
+put-counts-requires : tie.Need-put-counts-requires
+put-counts-requires c κs = search needs
+
 same-length : tie.Need-same-length
 same-length c = search needs
 
 returns : tie.Need-returns
 unfolding wordsOf encode
-returns c = let m = now (c .before .before .before .before .before .before .before .before .before .before .before .before .before .before .before .before .args .image) in
-    let d = c .before .before .before .before .before .before .before .before .before .before .before .before .before .before .before .before .args .d in
-    let full : 64 ≡ length (d .slots) = slice-aggregate-put-words (c .before .before .before .before .before .before .before .before) in
+returns c =
+    let start = c .before .before .before .before .before .before .before .before .before .before .before .before .before .before .before .before .before .before .before .before in
+    let m = now (start .args .image) in
+    let d = start .args .d in
+    let full : length (d .slots) ≡ 64 = search needs in
+    let commands : length (d .counts .commands) ≡ 4 = search needs in
+    let outcomes : length (d .counts .outcomes) ≡ 15 = search needs in
     let long = rings-length d in
-    let next : markerAt ≡ 0 + length (ringsWords d ++ d .slots) = simp length-append (omega arith) in
-    let size : length (ringsWords d ++ d .slots ++ (d .marker ∷ d .limit ∷ [])) ≡ imageWords = simp length-append (omega arith) in
-    let first = words-then m 0 (ringsWords d) slotsAt (d .slots) (omega arith) (c .before .before .before .before .before .before .before .before .before .before .before .before .before .put-rings .ensures) (c .before .before .before .before .before .before .before .put-words .ensures) in
-    words-whole m (wordsOf d) (omega (arith, size, c .before .before .before .before .before .before .before .before .before .before .before .before .before .before .before .before .pre)) (words-then m 0 (ringsWords d ++ d .slots) markerAt (d .marker ∷ d .limit ∷ []) next first (c .before .before .put-words2 .ensures))
+    let counts = counts-length d commands outcomes in
+    let first = ringsWords d ++ d .slots in
+    let numbers = d .marker ∷ d .limit ∷ [] in
+    let next : markerAt ≡ 0 + length first = simp length-append (omega arith) in
+    let next-2 : commandsAt ≡ 0 + length (first ++ numbers) = simp length-append (omega arith) in
+    let size : length (first ++ numbers ++ countsWords (d .counts)) ≡ imageWords = simp length-append (omega arith) in
+    let slots-put = words-then m 0 (ringsWords d) slotsAt (d .slots) (omega arith) (c .before .before .before .before .before .before .before .before .before .before .before .before .before .before .before .before .before .put-rings .ensures) (c .before .before .before .before .before .before .before .before .before .before .before .put-words .ensures) in
+    let numbers-put = words-then m 0 first markerAt numbers next slots-put (c .before .before .before .before .before .before .put-words2 .ensures) in
+    words-whole m (wordsOf d) (omega (arith, size, start .pre))
+    (words-then m 0 (first ++ numbers) commandsAt (countsWords (d .counts)) next-2 numbers-put (c .before .before .put-counts .ensures))
 
 pub put-device-spec : {M : Type 1} → statement M
 put-device-spec =
@@ -50,5 +63,6 @@ put-device-spec =
     put-words-requires
     slice-aggregate-put-words-2
     put-words-requires-2
+    put-counts-requires
     same-length
     returns)

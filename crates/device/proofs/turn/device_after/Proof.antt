@@ -22,12 +22,20 @@ emit-to-requires c κs = search needs
 next-ring-requires : tie.Need-next-ring-requires
 next-ring-requires c κs = search needs
 
+counted-requires : tie.Need-counted-requires
+counted-requires c κs = search needs
+
 with-marker-requires : tie.Need-with-marker-requires
 with-marker-requires c κs = search needs
 
+with-counts-requires : tie.Need-with-counts-requires
+with-counts-requires c κs = search needs
+
 returns : tie.Need-returns
 unfolding deviceAfter
-returns c = rw (c .with-marker .ensures, ← c .before .next-ring .ensures, c .before .before .emit-to .ensures, c .before .before .before .with-ring .ensures, c .before .before .before .before .emits-fence .ensures, c .before .before .before .before .before .ring-after .ensures, c .before .before .before .before .before .before .ring .ensures)
+returns c =
+    let next = c .before .before .before in
+    rw (c .with-counts .ensures, c .before .before .counted .ensures, c .before .with-marker .ensures, ← next .next-ring .ensures, next .before .emit-to .ensures, next .before .before .with-ring .ensures, next .before .before .before .emits-fence .ensures, next .before .before .before .before .ring-after .ensures, next .before .before .before .before .before .ring .ensures)
 
 pub device-after-spec : {M : Type 1} → statement M
 device-after-spec =
@@ -39,5 +47,7 @@ device-after-spec =
     with-ring-requires
     emit-to-requires
     next-ring-requires
+    counted-requires
     with-marker-requires
+    with-counts-requires
     returns)

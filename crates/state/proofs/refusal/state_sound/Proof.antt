@@ -37,14 +37,20 @@ limit-fits-requires c κs = search needs
 both-requires : tie.Need-both-requires
 both-requires c κs = search needs
 
+balanced-requires : tie.Need-balanced-requires
+balanced-requires c κs = search needs
+
 both-requires-2 : tie.Need-both-requires-2
 both-requires-2 c κs = search needs
+
+both-requires-3 : tie.Need-both-requires-3
+both-requires-3 c κs = search needs
 
 returns : tie.Need-returns
 unfolding stateSound
 returns c =
-    let rings = c .before .before .before .before in
-    rw (c .both2 .ensures, c .before .both .ensures, c .before .before .limit-fits .ensures, rings .all-four .ensures, rings .before .before .before .before .before .before .before .ring-sound .ensures, rings .before .before .before .before .before .before .before .before .ring .ensures, rings .before .before .before .before .before .ring-sound2 .ensures, rings .before .before .before .before .before .before .ring2 .ensures, rings .before .before .before .ring-sound3 .ensures, rings .before .before .before .before .ring3 .ensures, rings .before .ring-sound4 .ensures, rings .before .before .ring4 .ensures)
+    let rings = c .before .before .before .before .before .before in
+    rw (c .both3 .ensures, c .before .both2 .ensures, c .before .before .balanced .ensures, c .before .before .before .both .ensures, c .before .before .before .before .limit-fits .ensures, rings .all-four .ensures, rings .before .before .before .before .before .before .before .ring-sound .ensures, rings .before .before .before .before .before .before .before .before .ring .ensures, rings .before .before .before .before .before .ring-sound2 .ensures, rings .before .before .before .before .before .before .ring2 .ensures, rings .before .before .before .ring-sound3 .ensures, rings .before .before .before .before .ring3 .ensures, rings .before .ring-sound4 .ensures, rings .before .before .ring4 .ensures)
 
 pub state-sound-spec : {M : Type 1} → statement M
 state-sound-spec =
@@ -61,5 +67,7 @@ state-sound-spec =
     all-four-requires
     limit-fits-requires
     both-requires
+    balanced-requires
     both-requires-2
+    both-requires-3
     returns)

@@ -16,12 +16,17 @@ fresh-ring-requires-3 c κs = search needs
 fresh-ring-requires-4 : tie.Need-fresh-ring-requires-4
 fresh-ring-requires-4 c κs = search needs
 
+none-requires : tie.Need-none-requires
+none-requires c κs = search needs
+
 of-requires : tie.Need-of-requires
 of-requires c κs = search needs
 
 returns : tie.Need-returns
 unfolding freshDevice
-returns c = rw (c .of .ensures, c .before .fresh-ring4 .ensures, c .before .before .fresh-ring3 .ensures, c .before .before .before .fresh-ring2 .ensures, c .before .before .before .before .fresh-ring .ensures)
+returns c =
+    let rings = c .before .before in
+    rw (c .of .ensures, c .before .none .ensures, rings .fresh-ring4 .ensures, rings .before .fresh-ring3 .ensures, rings .before .before .fresh-ring2 .ensures, rings .before .before .before .fresh-ring .ensures)
 
 pub fresh-spec : {M : Type 1} → statement M
 fresh-spec =
@@ -31,5 +36,6 @@ fresh-spec =
     fresh-ring-requires-2
     fresh-ring-requires-3
     fresh-ring-requires-4
+    none-requires
     of-requires
     returns)
