@@ -27,8 +27,8 @@ enum {
     FV_IMAGE_SLOTS_WORD = 28,     /* where the slots start */
     FV_IMAGE_MARKER_WORD = 92,
     FV_IMAGE_LIMIT_WORD = 93,
-    FV_IMAGE_COMMANDS_WORD = 94,  /* how many commands each ring has taken */
-    FV_IMAGE_OUTCOMES_WORD = 98,  /* how many commands had each outcome */
+    FV_IMAGE_COMMANDS_WORD = 94,  /* commands taken, a word for each ring */
+    FV_IMAGE_OUTCOMES_WORD = 98,  /* commands by outcome, a word for each */
     FV_REPORT_BYTES = 24,         /* 6 words */
     FV_WINDOWS_BYTES = 32,        /* four pairs: start, length */
     FV_MEMORY_MOST = 1048576,
@@ -248,8 +248,8 @@ static inline uint32_t fv_image_commands(const uint8_t *image, uint32_t q)
     return fv_word(image, FV_IMAGE_COMMANDS_WORD + q);
 }
 
-/* How many commands, of all rings, had an outcome, which is below FV_OUTCOMES; round in
- * the same way. */
+/* How many commands, of all rings, had this outcome, which is below FV_OUTCOMES. It goes
+ * round in the same way. */
 static inline uint32_t fv_image_outcomes(const uint8_t *image, uint32_t outcome)
 {
     return fv_word(image, FV_IMAGE_OUTCOMES_WORD + outcome);

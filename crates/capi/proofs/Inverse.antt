@@ -11,7 +11,6 @@ use Rattle.command.specs.declared.frame.Frame.{Frame}
 use Rattle.command.specs.declared.frame.Frame.the-variants.{Unset, Held}
 use Rattle.command.specs.Frame.{strideOf}
 use Rattle.state.specs.declared.device.Ring.{Ring}
-use Rattle.state.specs.declared.device.Device.{Device}
 use Rattle.state.specs.Device.{emptyWindow, freshRing, ringOf}
 use Rattle.capi.specs.Image.{wordIn, wordsIn, heldOf, baseOf, formatOf, ringWords, ringsWords, countsWords, wordsOf, encode, frameOf, windowAt, ringAt, countsIn, decode, imageLength, imageWords, outcomesAt, commandsAt, limitAt, markerAt, slotsAt}
 use Rattle.capi.specs.Inverse.{Normal, NormalFrame, held, unset, DecodeEncode, EncodeDecode}
@@ -50,11 +49,9 @@ marker-and-limit : (image : List ℕ) → wordIn image markerAt ∷ wordIn image
 unfolding wordsIn
 marker-and-limit image = refl
 
-marker-back : (image : List ℕ) (d : Device) → wordsIn image markerAt 2 ≡ d .marker ∷ d .limit ∷ [] → wordIn image markerAt ≡ d .marker
-marker-back image d e = let words = marker-and-limit image ∙ e in cc words
-
-limit-back : (image : List ℕ) (d : Device) → wordsIn image markerAt 2 ≡ d .marker ∷ d .limit ∷ [] → wordIn image limitAt ≡ d .limit
-limit-back image d e = let words = marker-and-limit image ∙ e in cc words
+numbers-back : (image : List ℕ) (marker limit : ℕ) → wordsIn image markerAt 2 ≡ marker ∷ limit ∷ []
+    → (wordIn image markerAt ≡ marker) × (wordIn image limitAt ≡ limit)
+numbers-back image marker limit e = let words = marker-and-limit image ∙ e in (cc words, cc words)
 
 pub decode-encode : DecodeEncode
 unfolding decode encode ringsWords ringWords ringOf countsWords countsIn
@@ -66,7 +63,7 @@ decode-encode d formed =
     let past-slots : (n k : ℕ) → take n (drop (64 + k) (d .slots ++ lastWords d)) ≡ take n (drop k (lastWords d)) =
     λ n k. ap (take n) (rw (shaped .slots) at (drop-append-add (d .slots) (lastWords d) k)) in
     let slots : wordsIn (encode d) slotsAt 64 ≡ d .slots = row slotsAt 64 (omega arith) ∙ take-at (d .slots) (lastWords d) 64 (shaped .slots) in
-    let numbers : wordsIn (encode d) markerAt 2 ≡ d .marker ∷ d .limit ∷ [] = row markerAt 2 (omega arith) ∙ past-slots 2 0 in
+    let numbers = numbers-back (encode d) (d .marker) (d .limit) (row markerAt 2 (omega arith) ∙ past-slots 2 0) in
     let commands : wordsIn (encode d) commandsAt 4 ≡ d .counts .commands =
     row commandsAt 4 (omega arith) ∙ past-slots 4 2 ∙ take-at (d .counts .commands) (d .counts .outcomes) 4 (shaped .commands) in
     let outcomes : wordsIn (encode d) outcomesAt 15 ≡ d .counts .outcomes =
@@ -78,8 +75,8 @@ decode-encode d formed =
       ring-back (encode d) 14 (ringOf d 2) (row 14 7 (omega arith)),
       ring-back (encode d) 21 (ringOf d 3) (row 21 7 (omega arith)),
       slots,
-      marker-back (encode d) d numbers,
-      limit-back (encode d) d numbers,
+      numbers .0,
+      numbers .1,
       commands,
       outcomes,
       four (freshRing emptyWindow) (d .rings) (shaped .rings),

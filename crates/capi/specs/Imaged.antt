@@ -8,7 +8,7 @@ use Rattle.capi.specs.Inverse.{Formed}
 use Rattle.capi.specs.Follows.{FollowsFrom, FormsFrom}
 
 pub record Imaged (d : Device) : Type 0 where
-  -- four rings, 64 slots, and numbers of 32 bits
+  -- four rings, 64 slots, nineteen counts, and numbers of 32 bits
   pub formed : Formed d
   -- its image has the right length, and read back it is the device
   pub long : length (encode d) ≡ imageLength

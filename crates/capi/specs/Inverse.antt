@@ -11,7 +11,7 @@ use Rattle.capi.specs.Image.{imageLength, wordIn, wordsOf, encode, decod
 abbrev pub OfBytes : List ℕ → Type 0
 OfBytes bytes = (i : ℕ) → getD bytes i 0 < 2 ^ 8
 
--- four rings, 64 slots, and each of its words below 2^32: every device has this by its type, see `of_every_device`
+-- four rings, 64 slots, four and fifteen counts, and each of its words below 2^32: every device has this by its type, see `of_every_device`
 pub record Formed (d : Device) : Type 0 where
   pub shaped : Shaped d
   pub fit : (k : ℕ) → getD (wordsOf d) k 0 < 2 ^ 32

@@ -35,7 +35,7 @@ pub fn put_words(bytes: &mut [u8], k: usize, words: &[u32])
     }
 }
 
-// The words from word k on become those that are lent.
+// The lent words become the bytes' words from word k on.
 pub fn take_words(words: &mut [u32], bytes: &[u8], k: usize)
     requires { ⌜ 4 * k + 4 * length (now words) ≤ length (now bytes) ⌝ }
     ensures { λ _. ⌜ now (words .exit) ≡ wordsIn (now (bytes .entry)) k (length (now (words .entry))) ⌝ }

@@ -1,3 +1,4 @@
 pub mod TableRows
 pub mod Sizes
 pub mod Agree
+pub mod Outcomes

@@ -20,7 +20,7 @@ use Rattle.device.specs.Untaken.{untakenOf, sumOf, untakenIn}
 use Rattle.device.proofs.Verdicts.{each-of-four}
 use Rattle.device.proofs.Untaken.{served-takes}
 use Rattle.device.proofs.Shapes.{turn-shaped, fresh-shaped}
-use Rattle.demands.specs.Calls.{answerOf, leftBy, isRefused, heard, none, more}
+use Rattle.demands.specs.Calls.{answerOf, leftBy, servedWith, servedWithIn, isRefused, heard, none, more}
 use Rattle.demands.specs.Bounded.{Lends, served, taken, SaysIdle, here, later, TurnsBounded, IdleInTime, FreshIdleInTime}
 use Rattle.device.proofs.Answers.{refusal-least}
 use Rattle.demands.proofs.Answers.{is-refused, refused-serves}
@@ -36,14 +36,14 @@ lent-untaken R d call lends = rw (lends 0 (lit< tt), lends 1 (lit< tt), lends 2 
 
 -- a served turn takes one command
 one-served : (report : Report) → report .ring < 4 → sumOf 4 (served (Served report)) ≡ 1
-unfolding sumOf served valuesOf
+unfolding sumOf servedWith valuesOf
 one-served report four =
     each-of-four (λ r. 0 + cond (eqb 0 r) 1 0 + cond (eqb 1 r) 1 0 + cond (eqb 2 r) 1 0 + cond (eqb 3 r) 1 0 ≡ 1) refl refl refl refl (report .ring) four
 
 -- a refused one none
 none-served : (why : Refusal) → sumOf 4 (served (Refused why)) ≡ 0
 unfolding sumOf
-none-served why = rw (refused-serves why 0, refused-serves why 1, refused-serves why 2, refused-serves why 3)
+none-served why = let none = refused-serves (λ values. values .ring) why in rw (none 0, none 1, none 2, none 3)
 
 -- and its bytes; a turn that serves none takes none, and it is refused or idle
 record Takes (R : ℕ → List ℕ) (d after : Device) (answer : Answer) : Type 0 where
@@ -52,7 +52,7 @@ record Takes (R : ℕ → List ℕ) (d after : Device) (answer : Answer) : Type 
 
 module _ (d : Device) (call : Call) (R : ℕ → List ℕ) (shaped : Shaped d) where
   turn-takes : (isRefused (answerOf d call) ≡ false → Lends R call) → Takes R d (leftBy d call) (answerOf d call)
-  unfolding sumOf served isRefused
+  unfolding sumOf servedWith isRefused
   turn-takes lends = go (answerOf d call) refl lends
     where
       go : (answer : Answer) → answerOf d call ≡ answer → (isRefused answer ≡ false → Lends R call) → Takes R d (leftBy d call) answer
@@ -73,11 +73,11 @@ module _ (d : Device) (call : Call) (R : ℕ → List ℕ) (shaped : Shaped d) w
           }
 
 none-taken : (d : Device) → sumOf 4 (taken d []) ≡ 0
-unfolding taken sumOf
+unfolding servedWithIn sumOf
 none-taken d = refl
 
 pub turns-bounded : TurnsBounded
-unfolding TurnsBounded taken
+unfolding TurnsBounded servedWithIn
 turns-bounded d shaped R [] none = omega (arith, none-taken d)
 turns-bounded d shaped R (call ∷ calls) (more lends each) =
     let now = turn-takes d call R shaped lends in

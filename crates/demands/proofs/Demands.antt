@@ -2,9 +2,10 @@
 use Rattle.demands.specs.FourTurns.{FourTurns, FourTurnsByHead}
 use Rattle.demands.specs.Keeps.{TurnKeeps}
 use Rattle.demands.specs.Makings.{FreshMakes}
-use Rattle.demands.specs.Sound.{TurnStaysSound, SoundRefusals, FreshMakesSound, CallsStaySound, FreshStaysSound}
+use Rattle.demands.specs.Sound.{TurnStaysSound, TurnLeavesSound, SoundRefusals, FreshMakesSound, CallsStaySound, FreshStaysSound}
 use Rattle.demands.specs.Reports.{TurnReports}
-use Rattle.demands.specs.Counts.{TurnCounts, CallsCount, FreshCounts}
+use Rattle.demands.specs.Counting.{TurnCounts}
+use Rattle.demands.specs.Counts.{CallsCount, FreshCounts}
 use Rattle.demands.specs.Bounded.{TurnsBounded, IdleInTime, FreshIdleInTime}
 use Rattle.demands.specs.Idle.{IdleIsDone}
 use Rattle.demands.specs.EachStep.{EachStep}
@@ -15,6 +16,7 @@ use Rattle.demands.proofs.Keeps as keeps
 use Rattle.demands.proofs.Makings as makings
 use Rattle.demands.proofs.Sound as sound
 use Rattle.demands.proofs.Reports as reports
+use Rattle.demands.proofs.Counting as counting
 use Rattle.demands.proofs.Counts as counts
 use Rattle.demands.proofs.Bounded as bounded
 use Rattle.demands.proofs.Idle as idle
@@ -34,6 +36,9 @@ fresh-makes = makings.fresh-makes
 pub turn-stays-sound : TurnStaysSound
 turn-stays-sound = sound.turn-stays-sound
 
+pub turn-leaves-sound : TurnLeavesSound
+turn-leaves-sound = sound.turn-leaves-sound
+
 pub sound-refusals : SoundRefusals
 sound-refusals = sound.sound-refusals
 
@@ -52,7 +57,7 @@ turn-reports = reports.turn-reports
 
 -- demand 2: what is counted, on any turn, over any calls, and from fresh over unchanging rings
 pub turn-counts : TurnCounts
-turn-counts = counts.turn-counts
+turn-counts = counting.turn-counts
 
 pub calls-count : CallsCount
 calls-count = counts.calls-count

@@ -6,12 +6,10 @@ use mathlib.Core.List.{List, [], _∷_}
 use Prim.Native.Nat.{ℕ, zero, suc, _^_, _≤_, _<_}
 use native.Mathlib.Nat.{le-refl}
 use native.Mathlib.Omega.{arith}
-use lib.Dec.{lit<}
-use lib.ListN.{getD, set}
-use lib.Seq.{getD-set-same, getD-set-other}
+use lib.ListN.{length, getD, set}
+use lib.Seq.{getD-set-other}
 use Rattle.command.specs.declared.header.Command.{Command}
 use Rattle.work.specs.declared.work.Performed.{Performed}
-use Rattle.command.specs.declared.outcome.Outcome.{Outcome}
 use Rattle.command.specs.Outcome.{outcomeNumber}
 use Rattle.command.specs.Report.{emits}
 use Rattle.state.specs.declared.device.Ring.{Ring}
@@ -24,9 +22,10 @@ use Rattle.state.specs.Device.{Shaped, SlotsFit, emptyWindow, freshRing, ringOf
 use Rattle.state.specs.Ready.{nextRing}
 use Rattle.device.specs.Turn.{emitTo, ringAfter, deviceAfter}
 use Rattle.device.proofs.Untaken.{rings-after}
-use Rattle.state.proofs.Totals.{counted-balanced}
+use Rattle.command.proofs.Outcomes.{outcome-below}
+use Rattle.state.proofs.PlusOne.{one-up, counted-balanced}
 use Rattle.device.proofs.Shapes.{put-each, emit-fits, after-counts}
-use Rattle.demands.specs.Counts.{CountsOne}
+use Rattle.demands.specs.Counting.{CountsOne}
 
 -- a number put in one place of a list, no less than what it held, lowers no place
 put-rises : (xs : List ℕ) (n v m : ℕ) → getD xs n 0 ≤ v → getD xs m 0 ≤ getD (set xs n v) m 0
@@ -94,39 +93,24 @@ module _ (d : Device) (q : ℕ) (c : Command) (p : Performed) where
       go true e = rw (after-emit e) (getD-set-other (d .slots) (c .rdst) n _ 0 other)
       go false e = rw (after-no-emit e)
 
-pub outcome-below : (o : Outcome) → outcomeNumber o < 15
-outcome-below Outcome.Done = lit< tt
-outcome-below Outcome.UnknownOpcode = lit< tt
-outcome-below Outcome.ReservedFlag = lit< tt
-outcome-below Outcome.WrongPayloadBit = lit< tt
-outcome-below Outcome.NoSuchSlot = lit< tt
-outcome-below Outcome.SlotFull = lit< tt
-outcome-below Outcome.Misaligned = lit< tt
-outcome-below Outcome.NoFrame = lit< tt
-outcome-below Outcome.OutsideTheWindow = lit< tt
-outcome-below Outcome.BadFrame = lit< tt
-outcome-below Outcome.BadDispatch = lit< tt
-outcome-below Outcome.NotListed = lit< tt
-outcome-below Outcome.OffTheKernel = lit< tt
-outcome-below Outcome.AccessOutside = lit< tt
-outcome-below Outcome.OutOfSteps = lit< tt
-
 module _ (d : Device) (q : ℕ) (c : Command) (p : Performed) (shaped : Shaped d) (four : q < 4) where
+  ring-counted : q < length (d .counts .commands)
+  ring-counted = omega (arith, shaped .commands)
+
+  outcome-counted : outcomeNumber (p .outcome) < length (d .counts .outcomes)
+  outcome-counted = omega (arith, shaped .outcomes, outcome-below (p .outcome))
+
   -- the command is counted
   pub after-counts-one : CountsOne d q (outcomeNumber (p .outcome)) (deviceAfter d q c p)
-  unfolding commandsOf outcomesOf counted plusOneAt
+  unfolding commandsOf outcomesOf counted
   after-counts-one =
       let told = after-counts d q c p in
       record {
-        ring = rw told (getD-set-same (d .counts .commands) q _ 0 (omega (arith, shaped .commands)));
-        other-rings = λ n other. rw told (getD-set-other (d .counts .commands) q n _ 0 other);
-        outcome = rw told (getD-set-same (d .counts .outcomes) _ _ 0 (omega (arith, shaped .outcomes, outcome-below (p .outcome))));
-        other-outcomes = λ n other. rw told (getD-set-other (d .counts .outcomes) _ n _ 0 other);
+        commands = λ m. rw told (one-up (d .counts .commands) q ring-counted m);
+        outcomes = λ m. rw told (one-up (d .counts .outcomes) (outcomeNumber (p .outcome)) outcome-counted m);
       }
 
   -- so the two sums still agree
   pub after-balanced : balanced (d .counts) ≡ true → balanced (deviceAfter d q c p .counts) ≡ true
   after-balanced agree =
-      rw (after-counts d q c p)
-      (counted-balanced (d .counts) q (outcomeNumber (p .outcome)) (omega (arith, shaped .commands))
-      (omega (arith, shaped .outcomes, outcome-below (p .outcome))) agree)
+      rw (after-counts d q c p) (counted-balanced (d .counts) q (outcomeNumber (p .outcome)) ring-counted outcome-counted agree)

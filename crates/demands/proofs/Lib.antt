@@ -13,6 +13,8 @@ pub mod Sums
 pub mod Served
 pub mod Bounded
 pub mod Orders
+pub mod Counting
+pub mod Took
 pub mod Idle
 pub mod Counts
 pub mod Demands

@@ -1,14 +1,12 @@
 -- What making a device gives.
 -- Assumes nothing.
-use mathlib.Core.Path.{_≡_, refl}
+use mathlib.Core.Path.{refl}
 use Prim.Native.Nat.{ℕ}
 use lib.Dec.{lit≤}
 use Rattle.state.specs.declared.device.Window.{Window}
-use Rattle.state.specs.Counts.{noCounts}
 use Rattle.state.specs.Device.{freshDevice, emptyDevice, defaultLimit}
 use Rattle.state.proofs.Limits.{limit-fits, limit-unfit}
 use Rattle.device.specs.Fresh.{notMade, freshWith}
-use Rattle.device.proofs.Shapes.{made-each}
 use Rattle.demands.specs.Makings.{MakingWith, FreshMakes}
 
 making-with : (memory : ℕ) (w0 w1 w2 w3 : Window) (limit : ℕ) → MakingWith memory w0 w1 w2 w3 limit
@@ -26,6 +24,6 @@ fresh-makes = record {
   unnamed = λ memory w0 w1 w2 w3.
       let by-default = making-with memory w0 w1 w2 w3 defaultLimit in
       record { made = λ fits. by-default .made fits (lit≤ tt) (lit≤ tt); refused = by-default .refused-101 };
-  counts = λ memory w0 w1 w2 w3 limit. made-each (λ d. d .counts ≡ noCounts) memory w0 w1 w2 w3 limit refl (λ fits. refl);
+  counts = λ w0 w1 w2 w3 limit. refl;
   empty = refl;
 }

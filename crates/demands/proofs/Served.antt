@@ -12,7 +12,7 @@ use Rattle.state.specs.Device.{Shaped, ringOf}
 use Rattle.device.specs.Answer.{valuesOf}
 use Rattle.device.specs.Turn.{Call, ringAfter, finished, reportOf, servedOf, verdictOn, pickIn}
 use Rattle.device.proofs.Untaken.{served-ring, other-ring}
-use Rattle.demands.specs.Calls.{headIn}
+use Rattle.demands.specs.Calls.{headIn, servedWith}
 use Rattle.demands.specs.Bounded.{served}
 use Rattle.device.proofs.Turns.{servedIn, picked-servable}
 use Rattle.demands.proofs.Turns.{workIn}
@@ -31,5 +31,5 @@ module _ (d : Device) (call : Call) (r : ℕ) where
 
   -- one command is taken
   pub served-is : (n : ℕ) → served (servedIn d call r .turned .answer) n ≡ cond (eqb n r) 1 0
-  unfolding servedOf finished reportOf served valuesOf
+  unfolding servedOf finished reportOf servedWith valuesOf
   served-is n = refl

@@ -1,9 +1,8 @@
 -- A device stays sound, so a call on its own memory is refused only for what it lends.
 -- Assumes nothing.
 use mathlib.Core.Path.{_≡_, refl, sym, ap, _∙_}
-use mathlib.Core.Bool.{Bool, true, false, _&&_, cond}
+use mathlib.Core.Bool.{Bool, true, false, cond}
 use mathlib.Core.List.{[], _∷_}
-use mathlib.Core.Logic.{_⊎_}
 use Prim.Native.Nat.{ℕ, _+_, _≤_, _<_}
 use native.Mathlib.Omega.{arith}
 use lib.Dec.{leb, lit≤, lit<}
@@ -12,7 +11,7 @@ use borrow.Author.Tests.{eqb-true, le-leb, lt-leb}
 use Rattle.memory.proofs.Window.{window-length}
 use Rattle.command.specs.Outcome.{isDone}
 use Rattle.command.specs.Frame.{heldFault}
-use Rattle.words.proofs.Choices.{both-left, both-right, not-held}
+use Rattle.words.proofs.Choices.{both-right, not-held}
 use Rattle.work.proofs.Kept.{performed-frame}
 use Rattle.state.specs.declared.device.Window.{Window}
 use Rattle.state.specs.declared.device.Device.{Device}
@@ -28,37 +27,17 @@ use Rattle.state.proofs.Limits.{default-fits, limit-unfit}
 use Rattle.device.specs.Fresh.{notMade, freshWith}
 use Rattle.device.specs.Turn.{Call, unchanged, ringAfter, reportOf, finished, servedOf, verdictOn, ringIn, pickIn}
 use Rattle.state.proofs.Seeks.{next-below}
-use Rattle.device.proofs.Verdicts.{all-four}
+use Rattle.device.proofs.Verdicts.{limit-sound, counts-sound, rings-sound}
 use Rattle.command.proofs.Sizes.{whole-inside}
 use Rattle.demands.specs.Calls.{headIn, answerOf, leftBy, none, more}
 use Rattle.demands.specs.EachStep.{windowIn}
-use Rattle.demands.specs.Sound.{StaysSound, TurnStaysSound, RefusedForLent, SoundRefusals, FreshMakesSound, CallsStaySound, FreshStaysSound, MakesSound, lentRingsFit}
+use Rattle.demands.specs.Sound.{StaysSound, TurnStaysSound, LeavesSound, TurnLeavesSound, RefusedForLent, SoundRefusals, FreshMakesSound, CallsStaySound, FreshStaysSound, MakesSound, lentRingsFit}
 use Rattle.device.proofs.Shapes.{after-limit, turn-shaped, made-shaped}
 use Rattle.device.proofs.Turns.{servedIn, turn-cases, picked-servable, turn-refused}
 use Rattle.demands.proofs.Turns.{workIn}
 use Rattle.demands.proofs.Devices.{after-marker, after-ring, after-windows, after-balanced}
 use Rattle.state.specs.Slots.{isFull}
 use Rattle.pack.specs.Kernels.{soundPack}
-
--- what a sound state's own numbers pass
-abbrev numbers : Device → Bool
-numbers d = leb (d .marker) 3 && limitFits (d .limit) && balanced (d .counts)
-
--- a sound state has four sound rings
-rings-sound : (d : Device) → stateSound d ≡ true → (q : ℕ) → q < 4 → ringSound (ringOf d q) ≡ true
-unfolding stateSound
-rings-sound d sound = all-four (λ p. ringSound (ringOf d p)) (both-right (numbers d) _ sound)
-
--- a limit that fits
-limit-sound : (d : Device) → stateSound d ≡ true → limitFits (d .limit) ≡ true
-unfolding stateSound
-limit-sound d sound =
-    both-right (leb (d .marker) 3) _ (both-left (leb (d .marker) 3 && limitFits (d .limit)) _ (both-left (numbers d) _ sound))
-
--- and counts whose sums agree
-counts-sound : (d : Device) → stateSound d ≡ true → balanced (d .counts) ≡ true
-unfolding stateSound
-counts-sound d sound = both-right (leb (d .marker) 3 && limitFits (d .limit)) _ (both-left (numbers d) _ sound)
 
 -- a state with its marker among four sound rings, a limit that fits and such counts is sound
 sound-if : (d : Device) → d .marker < 4 → limitFits (d .limit) ≡ true → balanced (d .counts) ≡ true
@@ -146,18 +125,18 @@ module _ (d : Device) (call : Call) where
 
   -- what each number has where it may be given, a call's number has
   number-has : (P : ℕ → Type 0) → (windowsFit d (length (call .memory)) ≡ false → P 101) → (stateSound d ≡ false → P 102)
-      → P 103 → P 104 → P 105 → ((n : ℕ) → n ≤ 1 → P n) → P (answerNumber (answerOf d call))
+      → (stateSound d ≡ true → P 103 × P 104 × P 105 × ((n : ℕ) → n ≤ 1 → P n)) → P (answerNumber (answerOf d call))
   unfolding verdictOn verdictOf
-  number-has P memory state rings pipe pack heard =
+  number-has P memory state sound =
       go (verdictOn d call) refl
       (each (windowsFit d (length (call .memory))) (stateSound d) (lentRingsFit d call) (leb 1020 (length (call .pipe))) (soundPack (call .pack)) refl refl)
     where
       each : (m s r p k : Bool) → windowsFit d (length (call .memory)) ≡ m → stateSound d ≡ s
           → Numbers P (cond m (cond s (cond r (cond p (cond k Sound (Refused Refusal.Pack)) (Refused Refusal.Pipe)) (Refused Refusal.Rings)) (Refused Refusal.State)) (Refused Refusal.Memory))
-      each true true true true true em es = heard
-      each true true true true false em es = pack
-      each true true true false k em es = pipe
-      each true true false p k em es = rings
+      each true true true true true em es = sound es .3
+      each true true true true false em es = sound es .2
+      each true true true false k em es = sound es .1
+      each true true false p k em es = sound es .0
       each true false r p k em es = state es
       each false s r p k em es = memory em
 
@@ -170,17 +149,23 @@ module _ (d : Device) (call : Call) where
       → answerNumber (answerOf d call) ≡ k → ⊥
   number-not k low high memory state =
       number-has (λ n. n ≡ k → ⊥) (λ e same. memory e (sym same)) (λ e same. state e (sym same))
-      (λ same. omega arith) (λ same. omega arith) (λ same. omega arith) (λ n h same. omega arith)
+      (λ sound. (λ same. omega arith, λ same. omega arith, λ same. omega arith, λ n h same. omega arith))
+
+  -- and a call whose number is another is from a sound state
+  other-sound : (answerNumber (answerOf d call) ≡ 101 → ⊥) → (answerNumber (answerOf d call) ≡ 102 → ⊥) → stateSound d ≡ true
+  other-sound =
+      number-has (λ n. (n ≡ 101 → ⊥) → (n ≡ 102 → ⊥) → stateSound d ≡ true) (λ e not-101 not-102. absurd (not-101 refl))
+      (λ e not-101 not-102. absurd (not-102 refl))
+      (λ sound. (λ a b. sound, λ a b. sound, λ a b. sound, λ n h a b. sound))
 
   -- a state that is not sound is refused where the windows fit
   unsound-refused : windowsFit d (length (call .memory)) ≡ true → (stateSound d ≡ true → ⊥) → answerNumber (answerOf d call) ≡ 102
   unfolding verdictOn verdictOf
   unsound-refused fits unsound = refused-number {why = Refusal.State} (rw (fits, not-held (stateSound d) unsound))
 
-  stays-sound : Shaped d → StaysSound d call
+  stays-sound : StaysSound d call
   unfolding balanced
-  stays-sound shaped = record {
-    state = left-sound d shaped call;
+  stays-sound = record {
     windows = left-windows;
     fits = left-fits;
     not-102 = λ state. number-not 102 (lit≤ tt) (lit≤ tt) (λ e same. omega arith) (λ e same. let z : _≡_ {A = ℕ} 0 1 = cc in omega arith);
@@ -191,7 +176,13 @@ module _ (d : Device) (call : Call) where
         let fits-too = limit-sound d sound in
         let z : _≡_ {A = ℕ} 0 1 = cc in omega arith);
     counts-102 = λ fits differ. unsound-refused fits (λ sound. differ (eqb-true _ _ (counts-sound d sound)));
-    counts = left-balanced d shaped call;
+  }
+
+  leaves-sound : Shaped d → LeavesSound d call
+  leaves-sound shaped = record {
+    state = left-sound d shaped call;
+    agree = left-balanced d shaped call;
+    agreed = λ not-101 not-102. left-balanced d shaped call (counts-sound d (other-sound not-101 not-102));
   }
 
   refused-for-lent : stateSound d ≡ true → windowsFit d (length (call .memory)) ≡ true → RefusedForLent d call
@@ -205,7 +196,11 @@ module _ (d : Device) (call : Call) where
 
 pub turn-stays-sound : TurnStaysSound
 unfolding TurnStaysSound
-turn-stays-sound d shaped call = stays-sound d call shaped
+turn-stays-sound d call = stays-sound d call
+
+pub turn-leaves-sound : TurnLeavesSound
+unfolding TurnLeavesSound
+turn-leaves-sound d shaped call = leaves-sound d call shaped
 
 pub sound-refusals : SoundRefusals
 unfolding SoundRefusals
@@ -258,7 +253,7 @@ pub calls-stay-sound : CallsStaySound
 unfolding CallsStaySound
 calls-stay-sound memory d [] shaped state fits = none
 calls-stay-sound memory d (call ∷ calls) shaped state fits =
-    more (record { not-102 = stays-sound d call shaped .not-102 state; lent = λ same. refused-for-lent d call state (rw same fits) })
+    more (record { not-102 = stays-sound d call .not-102 state; lent = λ same. refused-for-lent d call state (rw same fits) })
     (calls-stay-sound memory (leftBy d call) calls (turn-shaped d call shaped) (left-sound d shaped call state) (left-fits d call memory ∙ fits))
 
 pub fresh-stays-sound : FreshStaysSound

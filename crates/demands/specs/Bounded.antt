@@ -1,31 +1,27 @@
 -- Turns over unchanging rings come to an end: each served turn takes at least 16 bytes of a ring.
-use Prim.Native.Nat.{ℕ, _+_, _*_, _≤_, _<_}
+use Prim.Native.Nat.{ℕ, _*_, _≤_, _<_}
 use mathlib.Core.Path.{_≡_}
-use mathlib.Core.Bool.{_&&_, cond}
-use mathlib.Core.List.{List, [], _∷_}
-use lib.Dec.{eqb}
+use mathlib.Core.List.{List, _∷_}
 use lib.ListN.{length}
 use Rattle.state.specs.declared.device.Window.{Window}
 use Rattle.state.specs.declared.device.Device.{Device}
 use Rattle.device.specs.declared.turn.Answer.{Answer}
 use Rattle.state.specs.Device.{Shaped, freshDevice}
-use Rattle.device.specs.Answer.{answerNumber, valuesOf}
 use Rattle.device.specs.Turn.{Call, ringIn}
 use Rattle.device.specs.Untaken.{sumOf, untakenIn}
-use Rattle.demands.specs.Calls.{answerOf, leftBy, numberIn, heard, EachHeard}
+use Rattle.demands.specs.Calls.{leftBy, numberIn, servedWith, servedWithIn, heard, EachHeard}
 
 -- the call lends R q as the bytes of each ring q
 abbrev pub Lends : (ℕ → List ℕ) → Call → Type 0
 Lends R call = (q : ℕ) → q < 4 → ringIn call q ≡ R q
 
 -- 1 if the answer serves ring q, else 0
-unfoldable pub served : Answer → ℕ → ℕ
-served answer q = cond (eqb (answerNumber answer) 0 && eqb q (valuesOf answer .ring)) 1 0
+abbrev pub served : Answer → ℕ → ℕ
+served answer q = servedWith (λ values. values .ring) answer q
 
 -- how many commands of ring q the calls take
-unfoldable pub taken : Device → List Call → ℕ → ℕ
-taken d [] q = 0
-taken d (call ∷ calls) q = served (answerOf d call) q + taken (leftBy d call) calls q
+abbrev pub taken : Device → List Call → ℕ → ℕ
+taken d calls q = servedWithIn (λ values. values .ring) d calls q
 
 -- one of the calls answers idle
 pub data SaysIdle : Device → List Call → Type 0 where

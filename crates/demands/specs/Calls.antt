@@ -1,9 +1,9 @@
 -- Calls one after another, each starting from the device that the last one left.
 use Prim.Native.Nat.{ℕ, _+_}
 use mathlib.Core.Path.{_≡_}
-use mathlib.Core.Bool.{Bool, false, cond}
+use mathlib.Core.Bool.{Bool, false, _&&_, cond}
 use mathlib.Core.List.{List, [], _∷_}
-use lib.Dec.{leb}
+use lib.Dec.{eqb, leb}
 use Rattle.command.specs.declared.header.Command.{Command}
 use Rattle.command.specs.Header.{commandAt}
 use Rattle.state.specs.declared.device.Device.{Device}
@@ -44,6 +44,20 @@ isRefused answer = leb 101 (answerNumber answer)
 pub record ServesRing (q : ℕ) (answer : Answer) : Type 0 where
   pub served : answerNumber answer ≡ 0
   pub ring : valuesOf answer .ring ≡ q
+
+-- 1 if the answer serves and has n for this one of its values, else 0
+unfoldable pub servedWith : (Values → ℕ) → Answer → ℕ → ℕ
+servedWith value answer n = cond (eqb (answerNumber answer) 0 && eqb n (value (valuesOf answer))) 1 0
+
+-- how many of the calls serve and have n for this one of their values
+unfoldable pub servedWithIn : (Values → ℕ) → Device → List Call → ℕ → ℕ
+servedWithIn value d [] n = 0
+servedWithIn value d (call ∷ calls) n = servedWith value (answerOf d call) n + servedWithIn value (leftBy d call) calls n
+
+-- the device that the last of the calls leaves
+unfoldable pub lastOf : Device → List Call → Device
+lastOf d [] = d
+lastOf d (call ∷ calls) = lastOf (leftBy d call) calls
 
 -- how many of the calls are not refused
 unfoldable pub heard : Device → List Call → ℕ

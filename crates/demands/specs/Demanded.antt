@@ -4,8 +4,9 @@ use mathlib.Core.List.{List}
 use Rattle.state.specs.declared.device.Device.{Device}
 use Rattle.device.specs.Turn.{Call}
 use Rattle.demands.specs.Keeps.{Keeps}
-use Rattle.demands.specs.Sound.{StaysSound}
-use Rattle.demands.specs.Counts.{Counting, CountsOver}
+use Rattle.demands.specs.Sound.{StaysSound, LeavesSound}
+use Rattle.demands.specs.Counting.{Counting}
+use Rattle.demands.specs.Counts.{CountsOver}
 use Rattle.demands.specs.Reports.{ReportsFrom}
 use Rattle.demands.specs.EachStep.{StepByStep}
 use Rattle.demands.specs.FourTurns.{FourTurnsFrom, FourTurnsByHeadFrom}
@@ -15,6 +16,7 @@ pub record Demanded (d : Device) : Type 0 where
   -- demand 1: what a turn leaves as it was, and that a sound device stays sound
   pub keeps : (call : Call) → Keeps d call
   pub stays-sound : (call : Call) → StaysSound d call
+  pub leaves-sound : (call : Call) → LeavesSound d call
   -- demand 2: what is reported, what is counted, and each step of each thread
   pub reports : ReportsFrom d
   pub counting : (call : Call) → Counting d call

@@ -2,7 +2,7 @@
 use Prim.Native.Nat.{ℕ, zero, suc, _+_, _≤_, _<_}
 use mathlib.Core.Path.{_≡_}
 use mathlib.Core.Bool.{Bool, true, _&&_, cond}
-use mathlib.Core.List.{List, [], _∷_}
+use mathlib.Core.List.{List}
 use lib.Dec.{eqb}
 use Rattle.command.specs.declared.header.Command.{Command}
 use Rattle.command.specs.Flags.{emitBit}
@@ -10,12 +10,11 @@ use Rattle.command.specs.Faults.{headerFault}
 use Rattle.command.specs.Header.{commandAt, isWhole}
 use Rattle.command.specs.Outcome.{isDone}
 use Rattle.state.specs.declared.device.Window.{Window}
-use Rattle.state.specs.declared.device.Device.{Device}
 use Rattle.state.specs.Device.{freshDevice}
 use Rattle.state.specs.Ready.{readyWith}
 use Rattle.device.specs.Turn.{Call}
 use Rattle.device.specs.Untaken.{sumOf}
-use Rattle.demands.specs.Calls.{leftBy, numberIn, EachHeard}
+use Rattle.demands.specs.Calls.{numberIn, lastOf, EachHeard}
 use Rattle.demands.specs.Bounded.{Lends, taken}
 
 -- where the n-th command of a ring begins
@@ -50,11 +49,6 @@ pub data Order (R : ℕ → List ℕ) : (ℕ → ℕ) → Type 0 where
   nothing : Order R (λ q. 0)
   start : {n : ℕ → ℕ} → Order R n → (q : ℕ) → q < 4 → isWhole (R q) (placeOf (R q) (n q)) ≡ true
       → readyWith (nth (R q) (n q)) (countOf R n (nth (R q) (n q) .rdst)) ≡ true → Order R (oneMore n q)
-
--- the device that the last of the calls leaves
-unfoldable pub lastOf : Device → List Call → Device
-lastOf d [] = d
-lastOf d (call ∷ calls) = lastOf (leftBy d call) calls
 
 -- after calls from fresh, one more call answers idle: then no order has started more of a ring than the device took
 unfoldable pub IdleIsDone : Type 0

@@ -1,11 +1,12 @@
 pub mod Calls
 pub mod Keeps
 pub mod Makings
+pub mod Counting
+pub mod Reports
+pub mod FourTurns
 pub mod Bounded
 pub mod Idle
 pub mod Counts
-pub mod Reports
-pub mod FourTurns
 pub mod Table
 pub mod OneAnswer
 pub mod EachStep

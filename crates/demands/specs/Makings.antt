@@ -35,7 +35,7 @@ pub record Making (memory : ℕ) (w0 w1 w2 w3 : Window) : Type 0 where
 pub record FreshMakes : Type 0 where
   pub named : (memory : ℕ) (w0 w1 w2 w3 : Window) (limit : ℕ) → MakingWith memory w0 w1 w2 w3 limit
   pub unnamed : (memory : ℕ) (w0 w1 w2 w3 : Window) → Making memory w0 w1 w2 w3
-  -- made or refused, nothing is counted yet
-  pub counts : (memory : ℕ) (w0 w1 w2 w3 : Window) (limit : ℕ) → freshWith memory w0 w1 w2 w3 limit .device .counts ≡ noCounts
+  -- a fresh device, the empty one too, has counted nothing
+  pub counts : (w0 w1 w2 w3 : Window) (limit : ℕ) → freshDevice w0 w1 w2 w3 limit .counts ≡ noCounts
   -- the empty device is fresh, with four empty windows at 0 and the limit 16,384, whatever limit was named
   pub empty : emptyDevice ≡ freshDevice emptyWindow emptyWindow emptyWindow emptyWindow 16384

@@ -13,7 +13,7 @@ use Rattle.device.specs.Answer.{Values}
 use Rattle.state.specs.Ready.{readyAt, nextRing}
 use Rattle.device.specs.Turn.{Call, ringIn}
 use Rattle.demands.specs.Calls.{headIn, leftBy, numberIn, valuesIn}
-use Rattle.demands.specs.Counts.{CountsOne}
+use Rattle.demands.specs.Counting.{CountsOne}
 
 -- the command signals: its emit bit is set and the outcome is 0 or 6 to 14
 abbrev pub Signals : Command → ℕ → Type 0
@@ -74,6 +74,6 @@ pub record Serving (d : Device) (call : Call) (v : Values) : Type 0 where
 abbrev pub ReportsFrom : Device → Type 0
 ReportsFrom d = (call : Call) → numberIn d call ≡ 0 → Serving d call (valuesIn d call)
 
--- of every device with four rings and 64 slots of 32 bits
+-- of every device of the right form with slots of 32 bits
 unfoldable pub TurnReports : Type 0
 TurnReports = (d : Device) → Shaped d → SlotsFit d → ReportsFrom d

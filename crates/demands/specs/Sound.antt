@@ -18,13 +18,11 @@ use Rattle.demands.specs.Calls.{leftBy, numberIn, EachCall}
 
 -- of a turn from any device on any input
 pub record StaysSound (d : Device) (call : Call) : Type 0 where
-  -- a state that is not refused as 102 leaves one that is not
-  pub state : stateSound d ≡ true → stateSound (leftBy d call) ≡ true
   -- the windows stay
   pub windows : (q : ℕ) → ringOf (leftBy d call) q .window ≡ ringOf d q .window
   -- so they fit the same memories, and 101 is met only with another
   pub fits : (memory : ℕ) → windowsFit (leftBy d call) memory ≡ windowsFit d memory
-  -- a call from such a state is not refused as 102
+  -- a call from a state that is not refused as 102 is not refused so
   pub not-102 : stateSound d ≡ true → numberIn d call ≡ 102 → ⊥
   -- a call whose memory the windows fit is not refused as 101
   pub not-101 : windowsFit d (length (call .memory)) ≡ true → numberIn d call ≡ 101 → ⊥
@@ -33,12 +31,21 @@ pub record StaysSound (d : Device) (call : Call) : Type 0 where
   -- or if the sum of the four counts and the sum of the fifteen differ modulo 4,294,967,296
   pub counts-102 : windowsFit d (length (call .memory)) ≡ true
       → (total (d .counts .commands) % 2 ^ 32 ≡ total (d .counts .outcomes) % 2 ^ 32 → ⊥) → numberIn d call ≡ 102
-  -- no answer leaves such sums where they agreed
-  pub counts : balanced (d .counts) ≡ true → balanced (leftBy d call .counts) ≡ true
 
--- of every device with a count for each ring and each outcome
 unfoldable pub TurnStaysSound : Type 0
-TurnStaysSound = (d : Device) → Shaped d → (call : Call) → StaysSound d call
+TurnStaysSound = (d : Device) (call : Call) → StaysSound d call
+
+-- of a turn from a device with a count for each ring and each outcome
+pub record LeavesSound (d : Device) (call : Call) : Type 0 where
+  -- a state that is not refused as 102 leaves one that is not
+  pub state : stateSound d ≡ true → stateSound (leftBy d call) ≡ true
+  -- sums of counts that agree still agree after it, whatever the answer
+  pub agree : balanced (d .counts) ≡ true → balanced (leftBy d call .counts) ≡ true
+  -- and whatever is handed in, only a call refused as 101 or 102 leaves sums that differ, as they were
+  pub agreed : (numberIn d call ≡ 101 → ⊥) → (numberIn d call ≡ 102 → ⊥) → balanced (leftBy d call .counts) ≡ true
+
+unfoldable pub TurnLeavesSound : Type 0
+TurnLeavesSound = (d : Device) → Shaped d → (call : Call) → LeavesSound d call
 
 -- no ring that a call lends is too long or shorter than its cursor
 abbrev pub lentRingsFit : Device → Call → Bool

@@ -32,7 +32,7 @@ put-each P other (x ∷ xs) (suc q) v zero new old = old
 put-each P other (x ∷ xs) (suc q) v (suc n) new old = put-each P other xs q v n (λ e. new (ap suc e)) old
 
 -- so one more leaves numbers that fit, and as many
-pub one-more-fits : (xs : List ℕ) (n : ℕ) → ((m : ℕ) → getD xs m 0 < 2 ^ 32) → (m : ℕ) → getD (plusOneAt xs n) m 0 < 2 ^ 32
+one-more-fits : (xs : List ℕ) (n : ℕ) → ((m : ℕ) → getD xs m 0 < 2 ^ 32) → (m : ℕ) → getD (plusOneAt xs n) m 0 < 2 ^ 32
 unfolding plusOneAt
 one-more-fits xs n fit m = put-each (λ x. x < 2 ^ 32) 0 xs n (plusOne (getD xs n 0)) m (λ e. omega arith) (fit m)
 
@@ -40,6 +40,7 @@ one-more-long : (xs : List ℕ) (n : ℕ) → length (plusOneAt xs n) ≡ length
 unfolding plusOneAt
 one-more-long xs n = length-set xs n _
 
+-- so does an emit
 pub emit-fits : (b : Bool) (d : Device) (n : ℕ) → SlotsFit d → SlotsFit (emitTo b d n)
 unfolding emitTo withSlots slotOf SlotsFit
 emit-fits true d n fit m = one-more-fits (d .slots) n fit m

@@ -51,6 +51,32 @@ all-four P e =
     each-of-four (λ q. P q ≡ true) (both-left (P 0) (P 1) e01) (both-right (P 0) (P 1) e01) (both-right (P 0 && P 1) (P 2) e012)
     (both-right (P 0 && P 1 && P 2) (P 3) e)
 
+-- what a sound state's own numbers pass
+abbrev numbers : Device → Bool
+numbers d = leb (d .marker) 3 && limitFits (d .limit) && balanced (d .counts)
+
+-- a sound state has a marker among its rings, a limit that fits, counts whose sums agree, and four sound rings
+module _ (d : Device) (sound : stateSound d ≡ true) where
+  numbers-sound : numbers d ≡ true
+  unfolding stateSound
+  numbers-sound = both-left (numbers d) _ sound
+
+  marker-and-limit : (leb (d .marker) 3 && limitFits (d .limit)) ≡ true
+  marker-and-limit = both-left (leb (d .marker) 3 && limitFits (d .limit)) _ numbers-sound
+
+  pub marker-sound : d .marker < 4
+  marker-sound = omega (arith, leb-true (d .marker) 3 (both-left (leb (d .marker) 3) _ marker-and-limit))
+
+  pub limit-sound : limitFits (d .limit) ≡ true
+  limit-sound = both-right (leb (d .marker) 3) _ marker-and-limit
+
+  pub counts-sound : balanced (d .counts) ≡ true
+  counts-sound = both-right (leb (d .marker) 3 && limitFits (d .limit)) _ numbers-sound
+
+  pub rings-sound : (q : ℕ) → q < 4 → ringSound (ringOf d q) ≡ true
+  unfolding stateSound
+  rings-sound = all-four (λ p. ringSound (ringOf d p)) (both-right (numbers d) _ sound)
+
 -- a picked ring is one of four and ready
 found-step : (f : ℕ → Bool) (b : Bool) (p q : ℕ) (rest : Picked) → f p ≡ b → p < 4 → (rest ≡ Ring q → (q < 4) × (f q ≡ true))
     → cond b (Ring p) rest ≡ Ring q → (q < 4) × (f q ≡ true)
@@ -70,22 +96,11 @@ module _ (d : Device) (memory : ℕ) (r0 r1 r2 r3 : List ℕ) (pipe : ℕ) (pack
   tests = all-passed (windowsFit d memory) (stateSound d) (ringsFit d (length r0) (length r1) (length r2) (length r3)) (leb 1020 pipe) (soundPack pack) sound
 
   pub steady : Steady d
-  unfolding stateSound ringSound
+  unfolding ringSound
   steady = record {
-    marker =
-        omega (
-          arith,
-          leb-true (d .marker) 3
-              (both-left (leb (d .marker) 3) (limitFits (d .limit)) (both-left (leb (d .marker) 3 && limitFits (d .limit)) (balanced (d .counts)) (both-left numbers rings (tests .1)))),
-        );
-    cursors = λ q h. leb-true _ _ (both-left _ _ (all-four (λ p. ringSound (ringOf d p)) (both-right numbers rings (tests .1)) q h));
+    marker = marker-sound d (tests .1);
+    cursors = λ q h. leb-true _ _ (both-left _ _ (rings-sound d (tests .1) q h));
   }
-    where
-      numbers : Bool
-      numbers = leb (d .marker) 3 && limitFits (d .limit) && balanced (d .counts)
-
-      rings : Bool
-      rings = ringSound (ringOf d 0) && ringSound (ringOf d 1) && ringSound (ringOf d 2) && ringSound (ringOf d 3)
 
   window-inside : (q : ℕ) → q < 4 → ringOf d q .window .start + ringOf d q .window .length ≤ memory
   unfolding windowsFit memoryFits windowFits

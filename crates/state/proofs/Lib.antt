@@ -1,3 +1,3 @@
 pub mod Seeks
 pub mod Limits
-pub mod Totals
+pub mod PlusOne

@@ -22,7 +22,7 @@ freshRing window = record { window = window; cursor = 0; frame = Unset }
 abbrev pub deviceOf : List Ring → List ℕ → ℕ → ℕ → Counts → Device
 deviceOf rings slots marker limit counts = record { rings = rings; slots = slots; marker = marker; limit = limit; counts = counts }
 
--- a device has four rings and 64 slots, and counts the commands of four rings and with fifteen outcomes
+-- a device has four rings, 64 slots, a count for each ring and one for each of the fifteen outcomes
 pub record Shaped (d : Device) : Type 0 where
   pub rings : length (d .rings) ≡ 4
   pub slots : length (d .slots) ≡ 64

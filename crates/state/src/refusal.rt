@@ -14,8 +14,8 @@ use words::choice::both;
 pub enum Refusal {
     // 101: memory too long, or a window outside it or not in multiples of 4.
     Memory,
-    // 102: marker above 3, limit outside 1 to 65,536, counts whose two sums differ, cursor above 65,536, or a held frame that
-    // SET_FB would refuse.
+    // 102: marker above 3, limit outside 1 to 65,536, cursor above 65,536, a held frame that SET_FB would
+    // refuse, or counts whose sums differ modulo 2^32.
     State,
     // 103: a ring too long or shorter than its cursor.
     Rings,

@@ -1,7 +1,6 @@
 -- `capi::image::put_counts` meets its contract. Assumes nothing.
 use denote.Ref.{now}
 use mathlib.Core.Path.{_≡_}
-use Prim.Native.Nat.{_+_}
 use native.Mathlib.Omega.{arith}
 use lib.ListN.{length}
 use Rattle.capi.specs.Image.{countsWords, commandsAt, outcomesAt}

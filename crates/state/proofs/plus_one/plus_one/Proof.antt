@@ -1,5 +1,4 @@
 -- `state::plus_one::plus_one` meets its contract. Written out, so that a number that sticks is refused here. Assumes nothing.
-use mathlib.Core.Path.{_≡_}
 use native.Mathlib.Omega.{arith}
 use Rattle.state.proofs.plus_one.plus_one.Statement.{statement}
 use Rattle.state.proofs.plus_one.plus_one.Tie as tie

@@ -1,5 +1,5 @@
 -- `state::plus_one::plus_one_at` meets its contract. Assumes nothing.
-use mathlib.Core.Path.{_≡_, sym}
+use mathlib.Core.Path.{sym}
 use lib.Seq.{set-out}
 use Rattle.state.specs.PlusOne.{plusOneAt}
 use borrow.Author.Needs.{needs}
