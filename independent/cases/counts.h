@@ -1,19 +1,18 @@
 /* Counts of commands taken, in the order of an image: a word for each ring,
- * then one for each outcome. They are balanced if the two sums are the same. */
+ * then one for each outcome. They are balanced if the two sums, as 32-bit
+ * numbers, are the same. */
 #ifndef COUNTS_H
 #define COUNTS_H
 
 #include "cases/kernels/chance.h"
 #include "device/device.h"
 
-enum { COUNTS = IND_RINGS + IND_OUTCOMES };
-
 /* Balanced ones: none, few, any, or such that the next command of ring `lead`,
  * whose outcome is `last` at most, makes them go round. */
 void draw_counts(struct chance *c, uint32_t lead, uint32_t last,
-                 uint32_t counts[COUNTS]);
+                 uint32_t counts[IND_COUNTS]);
 
 /* Changes some of them: mostly they are not balanced then. */
-void unbalance(struct chance *c, uint32_t counts[COUNTS]);
+void unbalance(struct chance *c, uint32_t counts[IND_COUNTS]);
 
 #endif

@@ -103,10 +103,11 @@ static void any_bytes(struct piece *piece, struct chance *c, uint32_t most)
     edge_bytes(c, piece->bytes, piece->length);
 }
 
-/* Any bytes at all; half of the time with windows that are inside. */
+/* Any bytes at all; half of the time with windows that are inside, mostly with
+ * counts whose sums are the same. */
 static void draw_noise(struct call *call, struct chance *c)
 {
-    uint32_t ways = below(c, 16), counts[COUNTS];
+    uint32_t ways = below(c, 16), counts[IND_COUNTS];
 
     call_start(call, CALL_TURN);
     any_bytes(&call->pieces[PIECE_MEMORY], c, 200);

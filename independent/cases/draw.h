@@ -21,7 +21,7 @@ void spoil_call(struct call *call, struct chance *c);
  * ring 0. */
 uint8_t *image_word(struct call *call, uint32_t ring, uint32_t word);
 
-/* Writes counts of commands taken, COUNTS of them, into the image. */
+/* Writes counts of commands taken, IND_COUNTS of them, into the image. */
 void put_counts(struct call *call, const uint32_t *counts);
 
 /* The numbers that a case is drawn from. */

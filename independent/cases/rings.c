@@ -3,8 +3,8 @@
 
 enum { HEADER = IND_HEADER_BYTES, NOISE_MOST = 40 }; /* bytes */
 
-/* What was taken before: whole commands' worth of bytes, or any number. Of a
- * ring that is not to be served, mostly nothing. */
+/* What was taken before: mostly nothing, else whole commands' worth of bytes or
+ * any number. Of a ring that is not to be served, more often nothing. */
 static uint32_t any_cursor(struct scene *s, uint32_t ring)
 {
     switch (below(s->c, ring == s->lead ? 20 : 32)) {

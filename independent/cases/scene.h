@@ -59,7 +59,8 @@ void draw_kernels(struct scene *s, uint32_t own);
  * gives its words. */
 uint32_t make_probe(uint32_t *code, uint32_t window_length);
 
-/* A pipe that is long enough, with something at its front. */
+/* A pipe that is long enough. Something stands at its front for a READ_MEM, and
+ * often for another command. */
 void draw_pipe(struct scene *s);
 
 /* Writes the device into the call. */

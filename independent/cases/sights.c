@@ -106,15 +106,13 @@ static void see_transfer(const struct served *v, uint64_t *counts)
 {
     const struct ind_command *command = &v->command;
     uint32_t outcome = v->report.outcome;
+    const struct ind_ring *ring = &v->device.rings[v->report.ring];
     uint64_t end = (uint64_t)command->arg0 + WORD * command->len;
-    uint64_t length = v->device.rings[v->report.ring].window_length;
+    uint64_t length = ring->window_length;
     int done = outcome == IND_DONE;
 
     counts[SEEN_FULL_RING] += done && command->payload != NULL
-        && command->len != 0
-        && command->payload + WORD * command->len
-           == v->before->pieces[PIECE_RING + v->report.ring].bytes
-              + IND_RING_MOST;
+        && command->len != 0 && ring->cursor + command->size == IND_RING_MOST;
     counts[SEEN_LEN_0] += done && command->len == 0;
     counts[SEEN_LEN_0_OUTSIDE] += outcome == IND_OUTSIDE_WINDOW
         && command->len == 0;

@@ -15,7 +15,7 @@ uint8_t *image_word(struct call *call, uint32_t ring, uint32_t word)
 
 void put_counts(struct call *call, const uint32_t *counts)
 {
-    for (uint32_t i = 0; i < COUNTS; i++)
+    for (uint32_t i = 0; i < IND_COUNTS; i++)
         put_word(image_word(call, 0, IND_IMAGE_TAKEN + i), counts[i]);
 }
 
@@ -80,9 +80,9 @@ static void spoil_limit(struct call *call, struct chance *c)
 
 static void spoil_counts(struct call *call, struct chance *c)
 {
-    uint32_t counts[COUNTS];
+    uint32_t counts[IND_COUNTS];
 
-    for (uint32_t i = 0; i < COUNTS; i++)
+    for (uint32_t i = 0; i < IND_COUNTS; i++)
         counts[i] = get_word(image_word(call, 0, IND_IMAGE_TAKEN + i));
     unbalance(c, counts);
     put_counts(call, counts);
@@ -123,7 +123,7 @@ static void spoil_frame(struct call *call, struct chance *c)
              mille(c, 700) ? 0 : edge_word(c));
 }
 
-/* One of which something was taken, if there is one. */
+/* A ring of which something was taken, if there is one. */
 static uint32_t taken_ring(struct call *call, struct chance *c)
 {
     uint32_t ring = below(c, IND_RINGS);

@@ -35,7 +35,7 @@ static const struct {
 static struct {
     uint64_t calls, fresh[2], fresh_with[3], fresh_with_both;
     uint64_t idle, refused[REFUSALS], refused_limit, wrong[WRONGS];
-    uint64_t unequal_sums[2], unequal_alone;
+    uint64_t unequal_sums[REFUSALS], unequal_alone;
     uint64_t ring_round[IND_RINGS], outcome_round[IND_OUTCOMES];
     uint64_t outcome[IND_OUTCOMES], opcode_done[OPCODES], row[ROWS];
     uint64_t sight[SIGHTS], steps, most_steps, limit[LIMITS];
@@ -208,8 +208,7 @@ static int counts_alone(const struct call *before, uint32_t answer)
     struct piece *image = &mended->pieces[PIECE_DEVICE];
 
     call_copy(mended, before);
-    memset(image->bytes + WORD * IND_IMAGE_TAKEN, 0,
-           IND_IMAGE_BYTES - WORD * IND_IMAGE_TAKEN);
+    memset(image->bytes + WORD * IND_IMAGE_TAKEN, 0, WORD * IND_COUNTS);
     call_make(mended, ind_fv_fresh, ind_fv_fresh_with, ind_fv_turn);
     int alone = call_answer(mended) != answer;
     call_free(mended);
@@ -308,6 +307,22 @@ static int limit_lines(FILE *out)
     return missing;
 }
 
+static int count_lines(FILE *out)
+{
+    int missing = 0;
+
+    title(out, "calls with counts of commands whose sums differ");
+    missing += lines(out, "refused %u", IND_REFUSED_MEMORY, count.unequal_sums,
+                     IND_REFUSED_STATE - IND_REFUSED_MEMORY + 1);
+    missing += line(out, "refused 102, by the counts alone",
+                    count.unequal_alone);
+    title(out, "calls in which a count of commands goes round to 0");
+    missing += lines(out, "of ring %u", 0, count.ring_round, IND_RINGS);
+    missing += lines(out, "of outcome %u", 0, count.outcome_round,
+                     IND_OUTCOMES);
+    return missing;
+}
+
 static int table_of(FILE *out)
 {
     int missing = 0;
@@ -329,14 +344,7 @@ static int table_of(FILE *out)
     title(out, "calls with a limit of steps outside its bounds");
     missing += line(out, "fresh_with 101", count.fresh_with_both);
     missing += line(out, "refused 102", count.refused_limit);
-    title(out, "calls with counts of commands whose sums differ");
-    missing += lines(out, "refused %u", IND_REFUSED_MEMORY, count.unequal_sums,
-                     2);
-    missing += line(out, "refused 102, for nothing else", count.unequal_alone);
-    title(out, "calls in which a count of commands goes round to 0");
-    missing += lines(out, "of ring %u", 0, count.ring_round, IND_RINGS);
-    missing += lines(out, "of outcome %u", 0, count.outcome_round,
-                     IND_OUTCOMES);
+    missing += count_lines(out);
     title(out, "calls that ran a kernel, by the limit of steps");
     missing += limit_lines(out);
     title(out, "calls that show");

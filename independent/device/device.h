@@ -61,6 +61,9 @@ enum {
     IND_OUTCOMES
 };
 
+/* Counts of commands: one for each ring, then one for each outcome. */
+enum { IND_COUNTS = IND_RINGS + IND_OUTCOMES };
+
 /* What one step answers besides 11 to 14. */
 enum { IND_GOES_ON = 0, IND_ENDED = 1 };
 

@@ -4,10 +4,10 @@
 #include <string.h>
 
 enum {
-    COUNTS = IND_RINGS + IND_OUTCOMES,
+    WRITE = 0x01, READ = 0x02, FILL = 0x10, DISPATCH = 0x20, BARRIER = 0x22,
+    FB = 0x30, NO_OPCODE = 0xFF, EMIT = 2, WAIT = 4, PAYLOAD = 8,
     HEADER = IND_HEADER_BYTES,
-    EMIT = 2, WAIT = 4, PAYLOAD = 8,
-    FULL = 63,  /* a slot that is */
+    FULL = 63,  /* a full slot */
     LENGTH = 64 /* of the windows */
 };
 
@@ -18,12 +18,12 @@ static uint32_t *count_at(struct stage *stage, uint32_t at)
                           : &stage->device.outcomes[at - IND_RINGS];
 }
 
-static uint32_t sum(const uint32_t *counts, uint32_t number)
+static uint32_t sum(struct stage *stage, uint32_t first, uint32_t end)
 {
     uint32_t all = 0;
 
-    for (uint32_t i = 0; i < number; i++)
-        all += counts[i];
+    for (uint32_t at = first; at < end; at++)
+        all += *count_at(stage, at);
     return all;
 }
 
@@ -32,15 +32,16 @@ static uint32_t sum(const uint32_t *counts, uint32_t number)
 static void push_outcome(struct stage *stage, uint32_t ring, uint32_t outcome)
 {
     const uint32_t commands[IND_OUTCOMES][4] = {
-        {head(0x22, 0, 0, 0), 0, 0, 0}, {head(0xFF, 0, 0, 0), 0, 0, 0},
-        {head(0x22, 0x10, 0, 0), 0, 0, 0}, {head(0x22, PAYLOAD, 0, 0), 0, 0, 0},
-        {head(0x22, EMIT, 64, 0), 0, 0, 0},
-        {head(0x22, EMIT, FULL, 0), 0, 0, 0}, {head(0x02, 0, 0, 1), 2, 0, 0},
-        {head(0x10, 0, 0, 0), 0, 0, 0}, {head(0x02, 0, 0, 1), LENGTH, 0, 0},
-        {head(0x30, 0, 0, 0), 0, 0, 0},
-        {head(0x20, 0, 0, 0), 0, 1, 0}, {head(0x20, 0, 0, 0), 1, 1, 0},
-        {head(0x20, 0, 0, 0), 1, 1, 0}, {head(0x20, 0, 0, 0), 1, 1, 0},
-        {head(0x20, 0, 0, 0), 1, 1, 0}
+        {head(BARRIER, 0, 0, 0), 0, 0, 0}, {head(NO_OPCODE, 0, 0, 0), 0, 0, 0},
+        {head(BARRIER, 0x10, 0, 0), 0, 0, 0},
+        {head(BARRIER, PAYLOAD, 0, 0), 0, 0, 0},
+        {head(BARRIER, EMIT, IND_SLOTS, 0), 0, 0, 0},
+        {head(BARRIER, EMIT, FULL, 0), 0, 0, 0}, {head(READ, 0, 0, 1), 2, 0, 0},
+        {head(FILL, 0, 0, 0), 0, 0, 0}, {head(READ, 0, 0, 1), LENGTH, 0, 0},
+        {head(FB, 0, 0, 0), 0, 0, 0},
+        {head(DISPATCH, 0, 0, 0), 0, 1, 0}, {head(DISPATCH, 0, 0, 0), 1, 1, 0},
+        {head(DISPATCH, 0, 0, 0), 1, 1, 0}, {head(DISPATCH, 0, 0, 0), 1, 1, 0},
+        {head(DISPATCH, 0, 0, 0), 1, 1, 0}
     };
     const uint32_t *words = commands[outcome];
 
@@ -80,7 +81,7 @@ static void serve_counted(struct stage *stage, uint32_t ring, uint32_t outcome)
     CHECK_EQ(stage_turn(stage), IND_SERVED);
     CHECK_EQ(stage->report.ring, ring);
     CHECK_EQ(stage->report.outcome, outcome);
-    for (uint32_t at = 0; at < COUNTS; at++) {
+    for (uint32_t at = 0; at < IND_COUNTS; at++) {
         uint32_t wanted = *count_at(before, at);
         wanted += at == ring || at == IND_RINGS + outcome;
         CHECK_EQ(*count_at(stage, at), wanted);
@@ -99,10 +100,10 @@ static void from_usual_counts(uint32_t ring, uint32_t outcome)
     stage_free(stage);
 
     stage = stage_with(ring, outcome);
-    for (uint32_t at = 0; at < COUNTS; at++)
+    for (uint32_t at = 0; at < IND_COUNTS; at++)
         *count_at(stage, at) = at < IND_RINGS ? 100 * (at + 1) : at;
-    stage->device.outcomes[0] += sum(stage->device.taken, IND_RINGS)
-        - sum(stage->device.outcomes, IND_OUTCOMES);
+    stage->device.outcomes[0] += sum(stage, 0, IND_RINGS)
+        - sum(stage, IND_RINGS, IND_COUNTS);
     serve_counted(stage, ring, outcome);
     stage_free(stage);
 }
@@ -138,10 +139,10 @@ static void not_counted(uint32_t number)
         stage->device.outcomes[3 * i] = number;
     }
     stage_unserved(stage, IND_IDLE);
-    push(stage, 0, head(0x22, WAIT, 0, 0), 0, 0, 0);
+    push(stage, 0, head(BARRIER, WAIT, 0, 0), 0, 0, 0);
     push_word(stage, 0, 1);
     stage_unserved(stage, IND_IDLE);
-    push(stage, 1, head(0x22, 0, 0, 0), 0, 0, 0);
+    push(stage, 1, head(BARRIER, 0, 0, 0), 0, 0, 0);
     stage->pack_len = 0;
     stage_unserved(stage, 105);
     stage->pipe_len = 0;
@@ -164,7 +165,7 @@ static void one_off(uint32_t at, uint32_t by)
 
     *count_at(stage, at) += by;
     stage_unserved(stage, 102);
-    push(stage, 2, head(0x22, EMIT, 0, 0), 0, 0, 0);
+    push(stage, 2, head(BARRIER, EMIT, 0, 0), 0, 0, 0);
     stage_unserved(stage, 102);
     stage->pipe_len = 0;
     stage->pack_len = 0;
@@ -187,7 +188,7 @@ static void same_side_off(void)
 {
     struct stage *stage = stage_new(LENGTH);
 
-    push(stage, 0, head(0x22, 0, 0, 0), 0, 0, 0);
+    push(stage, 0, head(BARRIER, 0, 0, 0), 0, 0, 0);
     stage->device.taken[0] = stage->device.taken[3] = 1;
     stage_unserved(stage, 102);
     stage->device.outcomes[14] = 1;
@@ -201,7 +202,7 @@ static void same_side_off(void)
  * outcome, as many as go round were by ring; and the other way. */
 static void equal_modulo(void)
 {
-    for (uint32_t at = 0; at < COUNTS; at++) {
+    for (uint32_t at = 0; at < IND_COUNTS; at++) {
         struct stage *stage = stage_with(1, 0);
         uint32_t next = at < IND_RINGS
             ? (at + 1) % IND_RINGS
@@ -213,12 +214,13 @@ static void equal_modulo(void)
     }
 }
 
-/* All as large as they may be: 15 times, and 4 times and 11 more. */
+/* All as large as they may be: each is one below 0, so the sums are 4 and 15
+ * below it, 11 apart. */
 static void all_largest(void)
 {
     struct stage *stage = stage_with(3, 14);
 
-    for (uint32_t at = 0; at < COUNTS; at++)
+    for (uint32_t at = 0; at < IND_COUNTS; at++)
         *count_at(stage, at) = UINT32_MAX;
     stage_unserved(stage, 102);
     stage->device.taken[0] -= 11;
@@ -238,7 +240,7 @@ static void fresh_counts(uint64_t memory_len, uint32_t limit, uint32_t answer)
     memset(&stage->device, 0xEE, sizeof stage->device);
     CHECK_EQ(ind_fresh_with(&stage->device, memory_len, windows, limit),
              answer);
-    for (uint32_t at = 0; at < COUNTS; at++)
+    for (uint32_t at = 0; at < IND_COUNTS; at++)
         CHECK_EQ(*count_at(stage, at), 0);
     stage_free(stage);
 }
@@ -266,12 +268,12 @@ static void push_job(struct stage *stage)
         uint32_t ring = (n + n / 7) % IND_RINGS;
         push_outcome(stage, ring, n % IND_BAD_PLACE);
         if (n % 3 == 0) {
-            push(stage, ring, head(0x01, PAYLOAD | EMIT, 1, n % 5), 0, 0, 0);
+            push(stage, ring, head(WRITE, PAYLOAD | EMIT, 1, n % 5), 0, 0, 0);
             for (uint32_t i = n % 5; i > 0; i--)
                 push_word(stage, ring, n);
         }
         if (n % 4 == 1) {
-            push(stage, ring, head(0x22, WAIT, 1, 0), 0, 0, 0);
+            push(stage, ring, head(BARRIER, WAIT, 1, 0), 0, 0, 0);
             push_word(stage, ring, n / 8);
         }
     }
@@ -291,11 +293,11 @@ static void whole_job(void)
             CHECK_EQ(stage->device.taken[ring], commands_before(stage, ring));
         for (uint32_t i = 0; i < IND_OUTCOMES; i++)
             CHECK_EQ(stage->device.outcomes[i], told[i]);
-        CHECK_EQ(sum(stage->device.taken, IND_RINGS), turns + 1);
-        CHECK_EQ(sum(stage->device.outcomes, IND_OUTCOMES), turns + 1);
+        CHECK_EQ(sum(stage, 0, IND_RINGS), turns + 1);
+        CHECK_EQ(sum(stage, IND_RINGS, IND_COUNTS), turns + 1);
     }
     CHECK(turns > 150);
-    CHECK_EQ(sum(stage->device.taken, IND_RINGS), turns);
+    CHECK_EQ(sum(stage, 0, IND_RINGS), turns);
     for (uint32_t i = 0; i < IND_BAD_PLACE; i++)
         CHECK(told[i] > 0);
     stage_free(stage);
@@ -315,7 +317,7 @@ void test_counts(void)
     not_counted(5);
     not_counted(UINT32_MAX);
     for (uint32_t i = 0; i < COUNT(off); i++) {
-        for (uint32_t at = 0; at < COUNTS; at++)
+        for (uint32_t at = 0; at < IND_COUNTS; at++)
             one_off(at, off[i]);
     }
     same_side_off();

@@ -24,8 +24,9 @@ enum {
     LIMIT = WORD * IND_IMAGE_LIMIT,
     TAKEN = WORD * IND_IMAGE_TAKEN,
     OUTCOMES = WORD * IND_IMAGE_OUTCOMES,
+    COUNTS_BYTES = WORD * IND_COUNTS,
     LAST_TAKEN = OUTCOMES - WORD,
-    LAST_OUTCOME = IND_IMAGE_BYTES - WORD
+    LAST_OUTCOME = TAKEN + COUNTS_BYTES - WORD
 };
 
 /* A turn's pieces, after it and its image before it. */
@@ -129,19 +130,31 @@ static void err_limit(struct turned *t)
 
 /* ---- counts of commands ---- */
 
-/* Errors of a served turn. */
+static void count(uint8_t *image, uint32_t ring, uint32_t outcome)
+{
+    add(image + TAKEN + (size_t)WORD * ring, 1);
+    add(image + OUTCOMES + (size_t)WORD * outcome, 1);
+}
+
+static void count_instead(uint8_t *counted, uint8_t *other)
+{
+    add(counted, UINT32_MAX);
+    add(other, 1);
+}
+
+/* Of a served turn. */
 static void err_counted(struct turned *t)
 {
     uint32_t outcome = ind_get(t->report + OUTCOME, WORD);
     uint32_t ring = ind_get(t->report + RING, WORD);
+    size_t next = (size_t)WORD * ((ring + 1) % IND_RINGS);
     uint8_t *taken = t->device + TAKEN + (size_t)WORD * ring;
     uint8_t *had = t->device + OUTCOMES + (size_t)WORD * outcome;
 
     switch (MUTANT) {
     case 34: /* outcome 5 not counted */
         if (outcome == IND_SLOT_FULL)
-            memcpy(t->device + TAKEN, t->before + TAKEN,
-                   sizeof t->before - TAKEN);
+            memcpy(t->device + TAKEN, t->before + TAKEN, COUNTS_BYTES);
         break;
     case 35: /* a ring's count sticks at the largest */
         if (ind_get(taken, WORD) == 0)
@@ -152,38 +165,31 @@ static void err_counted(struct turned *t)
             ind_put(had, WORD, UINT32_MAX);
         break;
     case 37: /* the next ring's */
-        add(taken, UINT32_MAX);
-        add(t->device + TAKEN + (size_t)WORD * ((ring + 1) % IND_RINGS), 1);
+        count_instead(taken, t->device + TAKEN + next);
         break;
     case 38: /* 14 counted as 13 */
-        if (outcome == IND_STEPS_SPENT) {
-            add(had, UINT32_MAX);
-            add(had - WORD, 1);
-        }
+        if (outcome == IND_STEPS_SPENT)
+            count_instead(had, had - WORD);
         break;
     case 39: /* a faulty header counted as done */
-        if (outcome >= IND_NO_OPCODE && outcome <= IND_NO_SLOT) {
-            add(had, UINT32_MAX);
-            add(t->device + OUTCOMES, 1);
-        }
+        if (outcome >= IND_NO_OPCODE && outcome <= IND_NO_SLOT)
+            count_instead(had, t->device + OUTCOMES);
         break;
     default:
         break;
     }
 }
 
-/* Errors of a turn that is idle or refused. */
+/* Of a turn that is idle or refused. */
 static void err_uncounted(struct turned *t)
 {
     int idle = t->answer == IND_IDLE;
 
     if ((MUTANT == 40 && idle)
-        || (MUTANT == 41 && t->answer == IND_REFUSED_PACK)) {
-        add(t->device + TAKEN, 1);
-        add(t->device + OUTCOMES, 1);
-    }
+        || (MUTANT == 41 && t->answer == IND_REFUSED_PACK))
+        count(t->device, 0, 0); /* counted all the same */
     if (MUTANT == 42 && idle) /* they start anew */
-        memset(t->device + TAKEN, 0, sizeof t->before - TAKEN);
+        memset(t->device + TAKEN, 0, COUNTS_BYTES);
 }
 
 static uint64_t sum(const uint8_t *first, const uint8_t *end)
@@ -199,7 +205,7 @@ static uint64_t sum(const uint8_t *first, const uint8_t *end)
 static int held_unequal(const uint8_t *image)
 {
     uint64_t taken = sum(image + TAKEN, image + OUTCOMES);
-    uint64_t outcomes = sum(image + OUTCOMES, image + IND_IMAGE_BYTES);
+    uint64_t outcomes = sum(image + OUTCOMES, image + TAKEN + COUNTS_BYTES);
 
     switch (MUTANT) {
     case 43: /* not modulo 4,294,967,296 */
@@ -228,31 +234,28 @@ static void misjudge(uint8_t *image)
 {
     int unequal = held_unequal(image);
 
-    memset(image + TAKEN, 0, IND_IMAGE_BYTES - TAKEN);
+    memset(image + TAKEN, 0, COUNTS_BYTES);
     add(image + TAKEN, (uint32_t)unequal);
 }
 
 static void restore_counts(struct turned *t)
 {
-    memcpy(t->device + TAKEN, t->before + TAKEN, sizeof t->before - TAKEN);
-    if (t->answer == IND_SERVED) {
-        add(t->device + TAKEN + WORD * ind_get(t->report + RING, WORD), 1);
-        add(t->device + OUTCOMES + WORD * ind_get(t->report + OUTCOME, WORD),
-            1);
-    }
+    memcpy(t->device + TAKEN, t->before + TAKEN, COUNTS_BYTES);
+    if (t->answer == IND_SERVED)
+        count(t->device, ind_get(t->report + RING, WORD),
+              ind_get(t->report + OUTCOME, WORD));
 }
 
-/* Errors of a making. */
+/* Of a making. */
 static void err_made(uint8_t *device, const uint8_t *before, uint32_t answer)
 {
-    if (MUTANT == 49 && answer == 0) { /* a fresh one is counted */
-        add(device + TAKEN, 1);
-        add(device + OUTCOMES, 1);
-    }
+    if (MUTANT == 49 && answer == 0) /* a fresh one is counted */
+        count(device, 0, 0);
     if (MUTANT == 50 && answer == 0) /* the counts not written */
-        memcpy(device + TAKEN, before + TAKEN, IND_IMAGE_BYTES - TAKEN);
+        memcpy(device + TAKEN, before + TAKEN, COUNTS_BYTES);
+    /* the same where it is refused */
     if (MUTANT == 51 && answer != 0 && answer < IND_WRONG_IMAGE)
-        memcpy(device + TAKEN, before + TAKEN, IND_IMAGE_BYTES - TAKEN);
+        memcpy(device + TAKEN, before + TAKEN, COUNTS_BYTES);
 }
 
 uint32_t fv_fresh(uint8_t *device, size_t device_len, const uint8_t *windows,
@@ -333,6 +336,19 @@ uint32_t fv_fresh_with(uint8_t *device, size_t device_len,
     return err_limited(device, limit, answer);
 }
 
+/* Errors of a turn, after it. */
+static void err_turned(struct turned *t)
+{
+    err_limit(t);
+    if (t->answer == IND_SERVED) {
+        err_served(t);
+        err_counted(t);
+    } else if (t->answer < IND_WRONG_IMAGE) {
+        err_unserved(t);
+        err_uncounted(t);
+    }
+}
+
 uint32_t fv_turn(uint8_t *device, size_t device_len, uint8_t *memory,
                  size_t memory_len, const uint8_t *ring0, size_t ring0_len,
                  const uint8_t *ring1, size_t ring1_len, const uint8_t *ring2,
@@ -364,13 +380,6 @@ uint32_t fv_turn(uint8_t *device, size_t device_len, uint8_t *memory,
                            report, report_len);
     if (misjudged)
         restore_counts(&t);
-    err_limit(&t);
-    if (t.answer == IND_SERVED) {
-        err_served(&t);
-        err_counted(&t);
-    } else if (t.answer < IND_WRONG_IMAGE) {
-        err_unserved(&t);
-        err_uncounted(&t);
-    }
+    err_turned(&t);
     return t.answer;
 }

@@ -23,7 +23,8 @@ uint32_t lay_pack(uint8_t *pack, uint32_t kernels, const uint32_t *first,
 /* Writes a pack of PACK_MOST bytes at most and gives its length. */
 uint32_t draw_pack(struct chance *c, uint8_t *pack);
 
-/* Mostly cuts, lengthens or changes a pack; gives its length now. */
+/* More often than not cuts, lengthens or changes a pack; gives its length
+ * now. */
 uint32_t damage_pack(struct chance *c, uint8_t *pack, uint32_t length);
 
 #endif
