@@ -136,9 +136,9 @@ static void run_to_idle(void)
             stop("a turn was refused");
         printf("turn %2u: ring %u, outcome %u, fence %u, words read %u, irq %u\n", ++turns, report.ring,
                report.outcome, report.fence, report.words_read, report.irq);
-        taken[report.ring]++;
-        if (report.outcome != FV_OUTCOME_DONE)
+        if (report.ring >= FV_RINGS || report.outcome != FV_OUTCOME_DONE)
             stop("a command was not done");
+        taken[report.ring]++;
     }
     printf("idle after turn %u\n", turns);
 }

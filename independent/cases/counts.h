@@ -7,8 +7,9 @@
 #include "cases/kernels/chance.h"
 #include "device/device.h"
 
-/* Balanced ones: none, few, any, or such that the next command of ring `lead`,
- * whose outcome is `last` at most, makes them go round. */
+/* Balanced ones: none, few, one of a ring and one of an outcome, any, or such
+ * that the next command of ring `lead`, whose outcome is `last` at most, makes
+ * them go round. */
 void draw_counts(struct chance *c, uint32_t lead, uint32_t last,
                  uint32_t counts[IND_COUNTS]);
 

@@ -23,8 +23,9 @@ use Rattle.state.specs.Ready.{nextRing}
 use Rattle.device.specs.Turn.{emitTo, ringAfter, deviceAfter}
 use Rattle.device.proofs.Untaken.{rings-after}
 use Rattle.command.proofs.Outcomes.{outcome-below}
+use Rattle.state.proofs.Places.{put-each}
 use Rattle.state.proofs.PlusOne.{one-up, counted-balanced}
-use Rattle.device.proofs.Shapes.{put-each, emit-fits, after-counts}
+use Rattle.device.proofs.Shapes.{emit-fits, after-counts}
 use Rattle.demands.specs.Counting.{CountsOne}
 
 -- a number put in one place of a list, no less than what it held, lowers no place

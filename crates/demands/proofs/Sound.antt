@@ -39,7 +39,7 @@ use Rattle.demands.proofs.Devices.{after-marker, after-ring, after-wind
 use Rattle.state.specs.Slots.{isFull}
 use Rattle.pack.specs.Kernels.{soundPack}
 
--- a state with its marker among four sound rings, a limit that fits and such counts is sound
+-- a state with its marker among four sound rings, a limit that fits and counts whose sums agree is sound
 sound-if : (d : Device) → d .marker < 4 → limitFits (d .limit) ≡ true → balanced (d .counts) ≡ true
     → ((q : ℕ) → q < 4 → ringSound (ringOf d q) ≡ true) → stateSound d ≡ true
 unfolding stateSound
@@ -251,13 +251,13 @@ fresh-makes-sound memory w0 w1 w2 w3 limit = go (memoryFits memory w0 w1 w2 w3) 
 
 pub calls-stay-sound : CallsStaySound
 unfolding CallsStaySound
-calls-stay-sound memory d [] shaped state fits = none
-calls-stay-sound memory d (call ∷ calls) shaped state fits =
+calls-stay-sound d shaped memory [] state fits = none
+calls-stay-sound d shaped memory (call ∷ calls) state fits =
     more (record { not-102 = stays-sound d call .not-102 state; lent = λ same. refused-for-lent d call state (rw same fits) })
-    (calls-stay-sound memory (leftBy d call) calls (turn-shaped d call shaped) (left-sound d shaped call state) (left-fits d call memory ∙ fits))
+    (calls-stay-sound (leftBy d call) (turn-shaped d call shaped) memory calls (left-sound d shaped call state) (left-fits d call memory ∙ fits))
 
 pub fresh-stays-sound : FreshStaysSound
 unfolding FreshStaysSound FreshMakesSound CallsStaySound
 fresh-stays-sound memory w0 w1 w2 w3 limit calls made =
     let fresh = fresh-makes-sound memory w0 w1 w2 w3 limit in
-    calls-stay-sound memory (freshWith memory w0 w1 w2 w3 limit .device) calls (made-shaped memory w0 w1 w2 w3 limit) (fresh .state) (fresh .windows made)
+    calls-stay-sound (freshWith memory w0 w1 w2 w3 limit .device) (made-shaped memory w0 w1 w2 w3 limit) memory calls (fresh .state) (fresh .windows made)

@@ -25,7 +25,8 @@ use Rattle.state.specs.Device.{Shaped, freshDevice, ringOf, slotOf, commandsOf}
 use Rattle.state.specs.Slots.{emitted}
 use Rattle.state.specs.PlusOne.{plusOne}
 use Rattle.state.specs.Counts.{counted, total}
-use Rattle.state.proofs.PlusOne.{count-within, total-most, total-changes}
+use Rattle.state.proofs.Totals.{count-within, total-most}
+use Rattle.state.proofs.PlusOne.{total-changes}
 use Rattle.device.specs.Turn.{Call, unchanged, deviceAfter, finished, servedOf, verdictOn, pickIn}
 use Rattle.device.specs.Untaken.{sumOf}
 use Rattle.device.proofs.Verdicts.{each-of-four}

@@ -33,7 +33,7 @@ abbrev pub BoundedFrom : Device → Type 0
 BoundedFrom d =
     (R : ℕ → List ℕ) (calls : List Call) → EachHeard (Lends R) d calls → 16 * sumOf 4 (taken d calls) ≤ untakenIn R d
 
--- of every device with four rings
+-- of every device of the right form
 unfoldable pub TurnsBounded : Type 0
 TurnsBounded = (d : Device) → Shaped d → BoundedFrom d
 
@@ -43,7 +43,7 @@ IdleInTimeFrom d =
     (R : ℕ → List ℕ) (calls : List Call) → EachHeard (Lends R) d calls
     → untakenIn R d < 16 * heard d calls → SaysIdle d calls
 
--- of every device with four rings
+-- of every device of the right form
 unfoldable pub IdleInTime : Type 0
 IdleInTime = (d : Device) → Shaped d → IdleInTimeFrom d
 

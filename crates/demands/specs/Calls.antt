@@ -45,11 +45,11 @@ pub record ServesRing (q : ℕ) (answer : Answer) : Type 0 where
   pub served : answerNumber answer ≡ 0
   pub ring : valuesOf answer .ring ≡ q
 
--- 1 if the answer serves and has n for this one of its values, else 0
+-- 1 if the answer serves and this value of its report is n, else 0
 unfoldable pub servedWith : (Values → ℕ) → Answer → ℕ → ℕ
 servedWith value answer n = cond (eqb (answerNumber answer) 0 && eqb n (value (valuesOf answer))) 1 0
 
--- how many of the calls serve and have n for this one of their values
+-- how many of the calls serve and have n for this value of their report
 unfoldable pub servedWithIn : (Values → ℕ) → Device → List Call → ℕ → ℕ
 servedWithIn value d [] n = 0
 servedWithIn value d (call ∷ calls) n = servedWith value (answerOf d call) n + servedWithIn value (leftBy d call) calls n

@@ -27,6 +27,6 @@ pub record Counting (d : Device) (call : Call) : Type 0 where
   -- counts of 32 bits stay so
   pub fit : CountsFit d → CountsFit (leftBy d call)
 
--- of every device with a count for each ring and each outcome
+-- of every device of the right form
 unfoldable pub TurnCounts : Type 0
 TurnCounts = (d : Device) → Shaped d → (call : Call) → Counting d call

@@ -22,7 +22,7 @@ pub record CountsOver (d : Device) (calls : List Call) : Type 0 where
   pub commands : (q : ℕ) → commandsOf (lastOf d calls) q ≡ (commandsOf d q + taken d calls q) % 2 ^ 32
   pub outcomes : (k : ℕ) → outcomesOf (lastOf d calls) k ≡ (outcomesOf d k + endedWith d calls k) % 2 ^ 32
 
--- from every device whose counts have 32 bits
+-- from every device of the right form whose counts have 32 bits
 unfoldable pub CallsCount : Type 0
 CallsCount = (d : Device) → Shaped d → CountsFit d → (calls : List Call) → CountsOver d calls
 

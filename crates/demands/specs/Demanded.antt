@@ -4,7 +4,7 @@ use mathlib.Core.List.{List}
 use Rattle.state.specs.declared.device.Device.{Device}
 use Rattle.device.specs.Turn.{Call}
 use Rattle.demands.specs.Keeps.{Keeps}
-use Rattle.demands.specs.Sound.{StaysSound, LeavesSound}
+use Rattle.demands.specs.Sound.{StaysSound, LeavesSound, StaySoundFrom}
 use Rattle.demands.specs.Counting.{Counting}
 use Rattle.demands.specs.Counts.{CountsOver}
 use Rattle.demands.specs.Reports.{ReportsFrom}
@@ -17,6 +17,7 @@ pub record Demanded (d : Device) : Type 0 where
   pub keeps : (call : Call) → Keeps d call
   pub stays-sound : (call : Call) → StaysSound d call
   pub leaves-sound : (call : Call) → LeavesSound d call
+  pub calls-stay-sound : StaySoundFrom d
   -- demand 2: what is reported, what is counted, and each step of each thread
   pub reports : ReportsFrom d
   pub counting : (call : Call) → Counting d call

@@ -22,7 +22,7 @@ pub record StaysSound (d : Device) (call : Call) : Type 0 where
   pub windows : (q : ℕ) → ringOf (leftBy d call) q .window ≡ ringOf d q .window
   -- so they fit the same memories, and 101 is met only with another
   pub fits : (memory : ℕ) → windowsFit (leftBy d call) memory ≡ windowsFit d memory
-  -- a call from a state that is not refused as 102 is not refused so
+  -- a call from a sound state is not refused as 102
   pub not-102 : stateSound d ≡ true → numberIn d call ≡ 102 → ⊥
   -- a call whose memory the windows fit is not refused as 101
   pub not-101 : windowsFit d (length (call .memory)) ≡ true → numberIn d call ≡ 101 → ⊥
@@ -35,7 +35,7 @@ pub record StaysSound (d : Device) (call : Call) : Type 0 where
 unfoldable pub TurnStaysSound : Type 0
 TurnStaysSound = (d : Device) (call : Call) → StaysSound d call
 
--- of a turn from a device with a count for each ring and each outcome
+-- of a turn from a device of the right form
 pub record LeavesSound (d : Device) (call : Call) : Type 0 where
   -- a state that is not refused as 102 leaves one that is not
   pub state : stateSound d ≡ true → stateSound (leftBy d call) ≡ true
@@ -83,10 +83,13 @@ pub record HandedBack (memory : ℕ) (d : Device) (call : Call) : Type 0 where
   pub lent : length (call .memory) ≡ memory → RefusedForLent d call
 
 -- so is each call, one after another, from a sound state whose windows fit so many bytes
+abbrev pub StaySoundFrom : Device → Type 0
+StaySoundFrom d =
+    (memory : ℕ) (calls : List Call) → stateSound d ≡ true → windowsFit d memory ≡ true → EachCall (HandedBack memory) d calls
+
+-- of every device of the right form
 unfoldable pub CallsStaySound : Type 0
-CallsStaySound =
-    (memory : ℕ) (d : Device) (calls : List Call) → Shaped d → stateSound d ≡ true → windowsFit d memory ≡ true
-    → EachCall (HandedBack memory) d calls
+CallsStaySound = (d : Device) → Shaped d → StaySoundFrom d
 
 -- and from a made device, with the memory's length that it was made for
 unfoldable pub FreshStaysSound : Type 0

@@ -2,10 +2,8 @@
 -- Assumes nothing.
 use mathlib.Core.Path.{_≡_, refl, ap, _∙_}
 use mathlib.Core.Bool.{Bool, true, false}
-use mathlib.Core.List.{List, [], _∷_}
-use Prim.Native.Nat.{ℕ, zero, suc, _^_, _<_}
-use native.Mathlib.Omega.{arith}
-use lib.ListN.{length, getD, set, length-set}
+use Prim.Native.Nat.{ℕ}
+use lib.ListN.{length, length-set}
 use Rattle.words.proofs.Choices.{cond-has}
 use Rattle.command.specs.Outcome.{outcomeNumber}
 use Rattle.command.specs.declared.header.Command.{Command}
@@ -14,7 +12,7 @@ use Rattle.work.specs.declared.work.Performed.{Performed}
 use Rattle.state.specs.declared.device.Device.{Device}
 use Rattle.state.specs.declared.device.Window.{Window}
 use Rattle.device.specs.declared.fresh.Fresh.{Fresh}
-use Rattle.state.specs.PlusOne.{plusOne, plusOneAt}
+use Rattle.state.proofs.PlusOne.{plus-one-fits, plus-one-long}
 use Rattle.state.specs.Counts.{counted}
 use Rattle.state.specs.Device.{Shaped, SlotsFit, CountsFit, slotOf, commandsOf, outcomesOf, emptyWindow, withRing, withSlots, withMarker, withCounts, defaultLimit, freshDevice, emptyDevice}
 use Rattle.device.specs.Fresh.{notMade, freshWith}
@@ -22,33 +20,15 @@ use Rattle.state.specs.Refusal.{memoryFits, limitFits}
 use Rattle.device.specs.Turn.{Call, emitTo, deviceAfter, finished, servedOf, unchanged, turnOf}
 use Rattle.device.proofs.Turns.{turn-cases}
 
--- what holds of a value put in place q, if that is place n, and of what place n held, holds of place n after it
-pub put-each : {A : Type 0} (P : A → Type 0) (other : A) (xs : List A) (q : ℕ) (v : A) (n : ℕ) → (n ≡ q → P v) → P (getD xs n other)
-    → P (getD (set xs q v) n other)
-put-each P other [] q v n new old = old
-put-each P other (x ∷ xs) zero v zero new old = new refl
-put-each P other (x ∷ xs) zero v (suc n) new old = old
-put-each P other (x ∷ xs) (suc q) v zero new old = old
-put-each P other (x ∷ xs) (suc q) v (suc n) new old = put-each P other xs q v n (λ e. new (ap suc e)) old
-
--- so one more leaves numbers that fit, and as many
-one-more-fits : (xs : List ℕ) (n : ℕ) → ((m : ℕ) → getD xs m 0 < 2 ^ 32) → (m : ℕ) → getD (plusOneAt xs n) m 0 < 2 ^ 32
-unfolding plusOneAt
-one-more-fits xs n fit m = put-each (λ x. x < 2 ^ 32) 0 xs n (plusOne (getD xs n 0)) m (λ e. omega arith) (fit m)
-
-one-more-long : (xs : List ℕ) (n : ℕ) → length (plusOneAt xs n) ≡ length xs
-unfolding plusOneAt
-one-more-long xs n = length-set xs n _
-
--- so does an emit
+-- an emit leaves numbers that fit
 pub emit-fits : (b : Bool) (d : Device) (n : ℕ) → SlotsFit d → SlotsFit (emitTo b d n)
 unfolding emitTo withSlots slotOf SlotsFit
-emit-fits true d n fit m = one-more-fits (d .slots) n fit m
+emit-fits true d n fit m = plus-one-fits (d .slots) n fit m
 emit-fits false d n fit m = fit m
 
 emit-long : (b : Bool) (d : Device) (n : ℕ) → length (emitTo b d n .slots) ≡ length (d .slots)
 unfolding emitTo withSlots
-emit-long true d n = one-more-long (d .slots) n
+emit-long true d n = plus-one-long (d .slots) n
 emit-long false d n = refl
 
 -- an emit changes the slots alone
@@ -71,8 +51,8 @@ after-counts d q c p = refl
 pub after-counts-fit : (d : Device) (q : ℕ) (c : Command) (p : Performed) → CountsFit d → CountsFit (deviceAfter d q c p)
 unfolding deviceAfter withCounts counted commandsOf outcomesOf
 after-counts-fit d q c p fit = record {
-  commands = one-more-fits (d .counts .commands) q (fit .commands);
-  outcomes = one-more-fits (d .counts .outcomes) (outcomeNumber (p .outcome)) (fit .outcomes);
+  commands = plus-one-fits (d .counts .commands) q (fit .commands);
+  outcomes = plus-one-fits (d .counts .outcomes) (outcomeNumber (p .outcome)) (fit .outcomes);
 }
 
 pub after-shaped : (d : Device) (q : ℕ) (c : Command) (p : Performed) → Shaped d → Shaped (deviceAfter d q c p)
@@ -80,8 +60,8 @@ unfolding deviceAfter withCounts counted withMarker withRing withSlots
 after-shaped d q c p s = record {
   rings = rw (emit-alone _ _ (c .rdst)) (length-set (d .rings) q _ ∙ s .rings);
   slots = emit-long (emits c (p .outcome)) _ (c .rdst) ∙ s .slots;
-  commands = one-more-long (d .counts .commands) q ∙ s .commands;
-  outcomes = one-more-long (d .counts .outcomes) _ ∙ s .outcomes;
+  commands = plus-one-long (d .counts .commands) q ∙ s .commands;
+  outcomes = plus-one-long (d .counts .outcomes) _ ∙ s .outcomes;
 }
 
 -- so a turn leaves a shaped device shaped

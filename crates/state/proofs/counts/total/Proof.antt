@@ -7,7 +7,7 @@ use native.Mathlib.Omega.{arith}
 use lib.ListN.{length, take}
 use lib.Seq.{take-length}
 use Rattle.state.specs.Counts.{total}
-use Rattle.state.proofs.PlusOne.{total-more}
+use Rattle.state.proofs.Totals.{total-more}
 use Rattle.state.proofs.counts.total.Statement.{statement}
 use Rattle.state.proofs.counts.total.Tie as tie
 
