@@ -35,6 +35,6 @@ pub fits-right : (xs : List ℕ) {ys : List ℕ} → Fits (xs ++ ys) → Fits ys
 fits-right [] h = h
 fits-right (x ∷ xs) h = fits-right xs (fits-rest h)
 
-pub fits-zeros : (n : ℕ) → Fits (replicate n 0)
-fits-zeros zero = fits-none
-fits-zeros (suc n) = fits-more (omega arith) (fits-zeros n)
+pub fits-alike : (n : ℕ) {x : ℕ} → x < 2 ^ 32 → Fits (replicate n x)
+fits-alike zero small = fits-none
+fits-alike (suc n) small = fits-more small (fits-alike n small)

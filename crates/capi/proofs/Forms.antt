@@ -2,7 +2,7 @@
 -- Assumes nothing.
 use mathlib.Core.Path.{_≡_, refl}
 use mathlib.Core.Bool.{Bool, true, false}
-use mathlib.Core.List.{List, _++_}
+use mathlib.Core.List.{List, [], _∷_, _++_}
 use Prim.Native.Nat.{ℕ, suc, _^_, _<_}
 use native.Mathlib.Omega.{arith}
 use lib.Dec.{eqb, lit<}
@@ -21,6 +21,11 @@ use Rattle.work.proofs.Performs.{performed-has}
 use Rattle.state.specs.declared.device.Window.{Window}
 use Rattle.state.specs.declared.device.Ring.{Ring}
 use Rattle.state.specs.declared.device.Device.{Device}
+use Rattle.state.specs.declared.edition.Edition.{Edition}
+use Rattle.state.specs.declared.edition.Edition.the-variants.{One, Two}
+use Rattle.state.specs.declared.edition.Start.{Start}
+use Rattle.state.specs.declared.edition.Start.the-variants.{Edition1}
+use Rattle.state.specs.Edition.{firstOf}
 use Rattle.state.specs.Device.{Shaped, SlotsFit, CountsFit, emptyWindow, defaultLimit, freshDevice, emptyDevice, ringOf, slotOf, commandsOf, outcomesOf, withRing, withMarker, withCounts}
 use Rattle.device.specs.Turn.{ringIn, unchanged, ringAfter, deviceAfter, finished, servedOf}
 use Rattle.state.proofs.Seeks.{next-below}
@@ -30,11 +35,10 @@ use Rattle.device.proofs.Turns.{turn-cases, picked-servable}
 use Rattle.command.proofs.Sizes.{whole-inside}
 use Rattle.device.proofs.Untaken.{served-ring, other-ring}
 use Rattle.device.proofs.Shapes.{emit-fits, after-limit, after-counts-fit, after-shaped, fresh-shaped, made-each}
-use Rattle.capi.specs.Image.{heldOf, baseOf, formatOf, ringWords, ringsWords, countsWords, windowAt}
+use Rattle.capi.specs.Image.{heldOf, baseOf, formatOf, ringWords, ringsWords, countsWords, editionNumber, lastWords, wordsOf, windowAt}
 use Rattle.capi.specs.Inverse.{OfBytes, Formed}
 use Rattle.capi.specs.Follows.{FreshForms, TurnForms}
-use Rattle.capi.proofs.Sizes.{lastWords, words-split}
-use Rattle.capi.proofs.Fits.{Fits, fits-none, fits-more, fits-both, fits-left, fits-right, fits-zeros}
+use Rattle.capi.proofs.Fits.{Fits, fits-none, fits-more, fits-both, fits-left, fits-right, fits-alike}
 
 -- what is below 2^32 in a frame, and in a ring
 record FrameFits (f : Frame) : Type 0 where
@@ -52,26 +56,33 @@ frame-in : (r : Ring) → Fits (ringWords r) → FrameFits (r .frame)
 unfolding ringWords
 frame-in r h = record { held = h .at 3; base = h .at 4; stride = h .at 5; format = h .at 6 }
 
+edition-fits : (e : Edition) → editionNumber e < 2 ^ 32
+edition-fits One = omega arith
+edition-fits Two = omega arith
+
 -- a device whose rings, slots, marker, limit and counts fit
 module _ (d : Device) where
   pub formed : Shaped d → ((q : ℕ) → q < 4 → Fits (ringWords (ringOf d q))) → Fits (d .slots) → d .marker < 2 ^ 32
       → d .limit < 2 ^ 32 → CountsFit d → Formed d
-  unfolding ringsWords countsWords commandsOf outcomesOf
+  unfolding wordsOf ringsWords countsWords commandsOf outcomesOf
   formed shaped rings slots marker limit counts = record {
     shaped = shaped;
-    fit = rw (words-split d) (fits-both (ringsWords d ++ d .slots)
+    fit = fits-both (ringsWords d ++ d .slots)
         (fits-both (ringsWords d)
         (fits-both (ringWords (ringOf d 0) ++ ringWords (ringOf d 1) ++ ringWords (ringOf d 2))
         (fits-both (ringWords (ringOf d 0) ++ ringWords (ringOf d 1)) (fits-both (ringWords (ringOf d 0)) (rings 0 (lit< tt)) (rings 1 (lit< tt))) (rings 2 (lit< tt)))
         (rings 3 (lit< tt)))
         slots)
         (fits-more marker (fits-more limit
-        (fits-both (d .counts .commands) (record { at = counts .commands }) (record { at = counts .outcomes })))) .at);
+        (fits-both (countsWords (d .counts))
+        (fits-both (d .counts .commands) (record { at = counts .commands }) (record { at = counts .outcomes }))
+        (fits-more (edition-fits (d .edition)) fits-none)))) .at;
   }
 
   module _ (is : Formed d) where
     all : Fits (ringsWords d ++ d .slots ++ lastWords d)
-    all = record { at = rw (words-split d) at (is .fit) }
+    unfolding wordsOf
+    all = record { at = is .fit }
 
     last-in : Fits (lastWords d)
     last-in = fits-right (ringsWords d ++ d .slots) all
@@ -82,7 +93,8 @@ module _ (d : Device) where
     counts-in : CountsFit d
     unfolding countsWords commandsOf outcomesOf
     counts-in =
-        let counts : Fits (d .counts .commands ++ d .counts .outcomes) = record { at = λ k. last-in .at (suc (suc k)) } in
+        let rest : Fits (countsWords (d .counts) ++ (editionNumber (d .edition) ∷ [])) = record { at = λ k. last-in .at (suc (suc k)) } in
+        let counts : Fits (d .counts .commands ++ d .counts .outcomes) = fits-left (countsWords (d .counts)) _ rest in
         record { commands = fits-left (d .counts .commands) (d .counts .outcomes) counts .at; outcomes = fits-right (d .counts .commands) counts .at }
 
     before-marker : Fits (ringsWords d ++ d .slots)
@@ -173,26 +185,27 @@ WindowFits w = (w .start < 2 ^ 32) × (w .length < 2 ^ 32)
 fresh-ring : (w : Window) → WindowFits w → Fits (ringWords (record { window = w; cursor = 0; frame = Frame.Unset }))
 fresh-ring w h = ring-fits _ (h .0) (h .1) (omega arith) (record { held = omega arith; base = omega arith; stride = omega arith; format = omega arith })
 
-fresh-formed : (w0 w1 w2 w3 : Window) (limit : ℕ) → WindowFits w0 → WindowFits w1 → WindowFits w2 → WindowFits w3 → limit < 2 ^ 32
-    → Formed (freshDevice w0 w1 w2 w3 limit)
+fresh-formed : (w0 w1 w2 w3 : Window) (limit : ℕ) (start : Start) → WindowFits w0 → WindowFits w1 → WindowFits w2 → WindowFits w3
+    → limit < 2 ^ 32 → firstOf start < 2 ^ 32 → Formed (freshDevice w0 w1 w2 w3 limit start)
 unfolding freshDevice ringOf commandsOf outcomesOf
-fresh-formed w0 w1 w2 w3 limit h0 h1 h2 h3 h =
-    formed (freshDevice w0 w1 w2 w3 limit) (fresh-shaped w0 w1 w2 w3 limit)
-    (each-of-four (λ q. Fits (ringWords (ringOf (freshDevice w0 w1 w2 w3 limit) q))) (fresh-ring w0 h0) (fresh-ring w1 h1) (fresh-ring w2 h2) (fresh-ring w3 h3))
-    (fits-zeros 64) (omega arith) h (record { commands = fits-zeros 4 .at; outcomes = fits-zeros 15 .at })
+fresh-formed w0 w1 w2 w3 limit start h0 h1 h2 h3 h first =
+    let d = freshDevice w0 w1 w2 w3 limit start in
+    formed d (fresh-shaped w0 w1 w2 w3 limit start)
+    (each-of-four (λ q. Fits (ringWords (ringOf d q))) (fresh-ring w0 h0) (fresh-ring w1 h1) (fresh-ring w2 h2) (fresh-ring w3 h3))
+    (fits-alike 64 first) (omega arith) h (record { commands = fits-alike 4 (omega arith) .at; outcomes = fits-alike 15 (omega arith) .at })
 
 empty-formed : Formed emptyDevice
 unfolding emptyDevice
-empty-formed = fresh-formed emptyWindow emptyWindow emptyWindow emptyWindow defaultLimit empty empty empty empty (omega arith)
+empty-formed = fresh-formed emptyWindow emptyWindow emptyWindow emptyWindow defaultLimit Edition1 empty empty empty empty (omega arith) (omega arith)
   where
     empty : WindowFits emptyWindow
     empty = (omega arith, omega arith)
 
 pub fresh-forms : FreshForms
 unfolding windowAt
-fresh-forms windows memory limit bytes =
-    made-each Formed memory _ _ _ _ limit empty-formed
-    (λ fits. fresh-formed _ _ _ _ limit (at 0) (at 2) (at 4) (at 6) (omega (arith, limit-within limit fits .1)))
+fresh-forms windows memory limit start bytes first =
+    made-each Formed memory _ _ _ _ limit start empty-formed
+    (λ fits. fresh-formed _ _ _ _ limit start (at 0) (at 2) (at 4) (at 6) (omega (arith, limit-within limit fits .1)) first)
   where
     at : (k : ℕ) → WindowFits (windowAt windows k)
     at k = (word-fits windows _ bytes, word-fits windows _ bytes)

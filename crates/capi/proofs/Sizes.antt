@@ -1,23 +1,13 @@
 -- How many words and bytes an image has.
 -- Assumes nothing.
 use mathlib.Core.Path.{_≡_, refl}
-use mathlib.Core.List.{List, [], _∷_, _++_, append-assoc}
 use native.Mathlib.Omega.{arith}
-use Prim.Native.Nat.{ℕ}
 use lib.ListN.{length, length-append}
 use Rattle.state.specs.declared.device.Device.{Device}
 use Rattle.state.specs.Device.{Shaped}
 use Rattle.capi.specs.Image.{ringWords, ringsWords, countsWords, wordsOf, encode, imageWords, slotsAt}
 use Rattle.capi.specs.Inverse.{EncodeLength}
 use Rattle.capi.proofs.WordBytes.{bytes-length}
-
--- the words after the slots
-abbrev pub lastWords : Device → List ℕ
-lastWords d = d .marker ∷ d .limit ∷ countsWords (d .counts)
-
-pub words-split : (d : Device) → wordsOf d ≡ ringsWords d ++ d .slots ++ lastWords d
-unfolding wordsOf
-words-split d = append-assoc (ringsWords d ++ d .slots) (d .marker ∷ d .limit ∷ []) (countsWords (d .counts))
 
 pub rings-length : (d : Device) → length (ringsWords d) ≡ slotsAt
 unfolding ringsWords ringWords

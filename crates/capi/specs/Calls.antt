@@ -6,6 +6,8 @@ use mathlib.Core.List.{List}
 use lib.Dec.{eqb}
 use lib.ListN.{length}
 use Rattle.state.specs.declared.device.Device.{Device}
+use Rattle.state.specs.declared.edition.Start.{Start}
+use Rattle.state.specs.declared.edition.Start.the-variants.{Edition1}
 use Rattle.device.specs.declared.fresh.Fresh.{Fresh}
 use Rattle.device.specs.declared.turn.Answer.{Answer}
 use Rattle.state.specs.Device.{defaultLimit}
@@ -29,23 +31,28 @@ pub record Freshens (i : List ℕ) (r : ℕ) (f : Freshened) : Type 0 where
 abbrev pub windowsLength : ℕ
 windowsLength = 4 * 8
 
--- a fresh device of four windows, with a limit named
-abbrev pub freshFor : List ℕ → ℕ → ℕ → Fresh
-freshFor windows memory limit =
-    freshWith memory (windowAt windows 0) (windowAt windows 2) (windowAt windows 4) (windowAt windows 6) limit
+-- a fresh device of four windows, with a limit and a start named
+abbrev pub freshFor : List ℕ → ℕ → ℕ → Start → Fresh
+freshFor windows memory limit start =
+    freshWith memory (windowAt windows 0) (windowAt windows 2) (windowAt windows 4) (windowAt windows 6) limit start
 
--- the image of a fresh device, with a limit named; 201 for an image of the wrong length, else 203 for windows of the wrong length
-unfoldable pub freshWithCall : List ℕ → List ℕ → ℕ → ℕ → Freshened
-freshWithCall image windows memory limit =
+-- what a making gives: its device's image and its number
+abbrev pub freshened : Fresh → Freshened
+freshened fresh = record { image = encode (fresh .device); answer = makingNumber (fresh .answer) }
+
+-- the image of a fresh device, with a limit and a start named; 201 for an image of the wrong length, else 203 for windows of the
+-- wrong length
+unfoldable pub freshWithCall : List ℕ → List ℕ → ℕ → ℕ → Start → Freshened
+freshWithCall image windows memory limit start =
     cond (eqb (length image) imageLength)
     (cond (eqb (length windows) windowsLength)
-    (record { image = encode (freshFor windows memory limit .device); answer = makingNumber (freshFor windows memory limit .answer) })
+    (freshened (freshFor windows memory limit start))
     (record { image = image; answer = 203 }))
     (record { image = image; answer = 201 })
 
--- with none named
+-- with neither named: edition 1
 abbrev pub freshCall : List ℕ → List ℕ → ℕ → Freshened
-freshCall image windows memory = freshWithCall image windows memory defaultLimit
+freshCall image windows memory = freshWithCall image windows memory defaultLimit Edition1
 
 -- an image, memory, pipe and report, and an answer
 pub record Called : Type 0 where

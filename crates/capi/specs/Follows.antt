@@ -1,9 +1,11 @@
 -- A call over a device's image is the device's turn.
-use Prim.Native.Nat.{ℕ}
+use Prim.Native.Nat.{ℕ, _^_, _<_}
 use mathlib.Core.Path.{_≡_}
 use mathlib.Core.List.{List}
 use lib.ListN.{length}
 use Rattle.state.specs.declared.device.Device.{Device}
+use Rattle.state.specs.declared.edition.Start.{Start}
+use Rattle.state.specs.Edition.{firstOf}
 use Rattle.device.specs.Answer.{answerNumber}
 use Rattle.device.specs.Turn.{Call, TurnEnd, ringIn, turnOf}
 use Rattle.capi.specs.Image.{encode}
@@ -29,9 +31,11 @@ FollowsFrom d = (report : List ℕ) (call : Call) → length report ≡ reportLe
 abbrev pub TurnFollows : Type 0
 TurnFollows = (d : Device) → Formed d → FollowsFrom d
 
--- a fresh device is formed, if the windows lent are of bytes, whatever limit is named
+-- a fresh device is formed, whatever limit is named, if the windows lent are of bytes and the starting number has 32 bits
 abbrev pub FreshForms : Type 0
-FreshForms = (windows : List ℕ) (memory limit : ℕ) → OfBytes windows → Formed (freshFor windows memory limit .device)
+FreshForms =
+    (windows : List ℕ) (memory limit : ℕ) (start : Start) → OfBytes windows → firstOf start < 2 ^ 32
+    → Formed (freshFor windows memory limit start .device)
 
 -- the rings that a call lends are of bytes
 abbrev pub RingsOfBytes : Call → Type 0

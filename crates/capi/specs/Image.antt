@@ -1,5 +1,5 @@
 -- The image of a device: little-endian words. Each ring has seven, then come the 64 slots, the marker, the limit, the commands
--- that each ring has taken and a count for each outcome.
+-- that each ring has taken, a count for each outcome and the edition.
 use mathlib.Core.Bool.{cond}
 use Prim.Native.Nat.{ℕ, zero, suc, _+_, _*_}
 use mathlib.Core.List.{List, [], _∷_, _++_}
@@ -10,6 +10,8 @@ use Rattle.command.specs.declared.frame.Frame.{Frame}
 use Rattle.command.specs.declared.frame.Frame.the-variants.{Unset, Held}
 use Rattle.command.specs.Frame.{strideOf}
 use Rattle.state.specs.declared.counts.Counts.{Counts}
+use Rattle.state.specs.declared.edition.Edition.{Edition}
+use Rattle.state.specs.declared.edition.Edition.the-variants.{One, Two}
 use Rattle.state.specs.declared.device.Window.{Window}
 use Rattle.state.specs.declared.device.Ring.{Ring}
 use Rattle.state.specs.declared.device.Device.{Device}
@@ -19,7 +21,7 @@ use Rattle.state.specs.Device.{deviceOf, ringOf}
 abbrev pub ringSize : ℕ
 ringSize = 7
 
--- the words where the slots, the marker, the limit and the counts stand, and how many words and bytes there are
+-- the words where the slots, the marker, the limit, the counts and the edition stand, and how many words and bytes there are
 abbrev pub slotsAt : ℕ
 slotsAt = 4 * ringSize
 
@@ -35,8 +37,11 @@ commandsAt = limitAt + 1
 abbrev pub outcomesAt : ℕ
 outcomesAt = commandsAt + 4
 
+abbrev pub editionAt : ℕ
+editionAt = outcomesAt + 15
+
 abbrev pub imageWords : ℕ
-imageWords = outcomesAt + 15
+imageWords = editionAt + 1
 
 abbrev pub imageLength : ℕ
 imageLength = 4 * imageWords
@@ -83,9 +88,18 @@ ringsWords d = ringWords (ringOf d 0) ++ ringWords (ringOf d 1) ++ ringWords (ri
 unfoldable pub countsWords : Counts → List ℕ
 countsWords counts = counts .commands ++ counts .outcomes
 
+-- an edition is its number
+abbrev pub editionNumber : Edition → ℕ
+editionNumber One = 1
+editionNumber Two = 2
+
+-- the words after the slots
+abbrev pub lastWords : Device → List ℕ
+lastWords d = d .marker ∷ d .limit ∷ (countsWords (d .counts) ++ (editionNumber (d .edition) ∷ []))
+
 -- a device's words
 unfoldable pub wordsOf : Device → List ℕ
-wordsOf d = ringsWords d ++ d .slots ++ (d .marker ∷ d .limit ∷ []) ++ countsWords (d .counts)
+wordsOf d = ringsWords d ++ d .slots ++ lastWords d
 
 -- a device's image
 unfoldable pub encode : Device → List ℕ
@@ -111,8 +125,12 @@ ringAt image k = record {
 unfoldable pub countsIn : List ℕ → Counts
 countsIn image = record { commands = wordsIn image commandsAt 4; outcomes = wordsIn image outcomesAt 15 }
 
+-- the edition of a word: 2 is edition 2, any other edition 1
+unfoldable pub editionBy : ℕ → Edition
+editionBy word = cond (eqb word 2) Two One
+
 -- the device of an image
 unfoldable pub decode : List ℕ → Device
 decode image =
     deviceOf (ringAt image 0 ∷ ringAt image 7 ∷ ringAt image 14 ∷ ringAt image 21 ∷ []) (wordsIn image slotsAt 64) (wordIn image markerAt)
-    (wordIn image limitAt) (countsIn image)
+    (wordIn image limitAt) (countsIn image) (editionBy (wordIn image editionAt))

@@ -5,7 +5,7 @@ use mathlib.Core.List.{List}
 use lib.ListN.{length, getD}
 use Rattle.state.specs.declared.device.Device.{Device}
 use Rattle.state.specs.Device.{Shaped}
-use Rattle.capi.specs.Image.{imageLength, wordIn, wordsOf, encode, decode}
+use Rattle.capi.specs.Image.{imageLength, editionAt, wordIn, wordsOf, encode, decode}
 
 -- lent bytes are bytes
 abbrev pub OfBytes : List ℕ → Type 0
@@ -21,12 +21,18 @@ pub data NormalFrame : ℕ → ℕ → ℕ → ℕ → Type 0 where
   held : {base stride format : ℕ} → NormalFrame 1 base stride format
   unset : NormalFrame 0 0 0 0
 
--- an image of the right length, with each ring's frame in normal form
+-- an edition's word is in normal form: 1 or 2
+pub data NormalEdition : ℕ → Type 0 where
+  one : NormalEdition 1
+  two : NormalEdition 2
+
+-- an image of the right length, with each ring's frame and the edition in normal form
 pub record Normal (image : List ℕ) : Type 0 where
   pub long : length image ≡ imageLength
   pub bytes : OfBytes image
   pub frames : (q : ℕ) → q < 4
       → NormalFrame (wordIn image (7 * q + 3)) (wordIn image (7 * q + 4)) (wordIn image (7 * q + 5)) (wordIn image (7 * q + 6))
+  pub edition : NormalEdition (wordIn image editionAt)
 
 -- every image has the right length
 abbrev pub EncodeLength : Type 0

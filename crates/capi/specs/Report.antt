@@ -6,15 +6,15 @@ use Rattle.device.specs.declared.turn.Answer.{Answer}
 use Rattle.device.specs.Answer.{answerNumber, valuesOf}
 use Rattle.capi.specs.Image.{bytesOf}
 
--- six words
+-- seven words
 abbrev pub reportLength : ℕ
-reportLength = 4 * 6
+reportLength = 4 * 7
 
--- the answer's number, then the ring, outcome, fence, words read and IRQ that are reported
+-- the answer's number, then the ring, outcome, fence, words read and IRQ that are reported, and whether a fence was emitted
 unfoldable pub reportWords : Answer → List ℕ
 reportWords answer =
     let v = valuesOf answer in
-    answerNumber answer ∷ v .ring ∷ v .outcome ∷ v .fence ∷ v .words ∷ cond (v .irq) 1 0 ∷ []
+    answerNumber answer ∷ v .ring ∷ v .outcome ∷ v .fence ∷ v .words ∷ cond (v .irq) 1 0 ∷ cond (v .emitted) 1 0 ∷ []
 
 -- its bytes
 unfoldable pub reportBytes : Answer → List ℕ

@@ -17,6 +17,7 @@ use device::turn::Answer;
 use device::turn::turn;
 use state::device::DEFAULT_LIMIT;
 use state::device::Device;
+use state::edition::Start;
 
 // An image, a report or windows of the wrong length: the call changes nothing.
 pub const WRONG_IMAGE: u32 = 201;
@@ -27,9 +28,15 @@ pub const WRONG_WINDOWS: u32 = 203;
 
 pub const WINDOWS_BYTES: usize = 4 * 8;
 
-// With a limit named. `memory` is the memory's length.
-pub fn fresh_with_call(image: &mut [u8], windows: &[u8], memory: usize, limit: u32) -> u32
-    ensures { λ r. ⌜ Freshens (now (image .exit)) r (freshWithCall (now (image .entry)) (now (windows .entry)) memory limit) ⌝ }
+// With a limit and a start named. `memory` is the memory's length.
+pub fn fresh_with_call(
+    image: &mut [u8],
+    windows: &[u8],
+    memory: usize,
+    limit: u32,
+    start: Start,
+) -> u32
+    ensures { λ r. ⌜ Freshens (now (image .exit)) r (freshWithCall (now (image .entry)) (now (windows .entry)) memory limit start) ⌝ }
 {
     if image.len() != IMAGE_BYTES {
         return WRONG_IMAGE;
@@ -44,6 +51,7 @@ pub fn fresh_with_call(image: &mut [u8], windows: &[u8], memory: usize, limit: u
         window_at(windows, 4),
         window_at(windows, 6),
         limit,
+        start,
     );
     let device = fresh.device;
     let answer = fresh.answer;
@@ -51,11 +59,11 @@ pub fn fresh_with_call(image: &mut [u8], windows: &[u8], memory: usize, limit: u
     making_number(answer)
 }
 
-// With none named.
+// With neither named: edition 1.
 pub fn fresh_call(image: &mut [u8], windows: &[u8], memory: usize) -> u32
     ensures { λ r. ⌜ Freshens (now (image .exit)) r (freshCall (now (image .entry)) (now (windows .entry)) memory) ⌝ }
 {
-    fresh_with_call(image, windows, memory, DEFAULT_LIMIT)
+    fresh_with_call(image, windows, memory, DEFAULT_LIMIT, Start::Edition1)
 }
 
 fn is_served(answer: Answer) -> bool

@@ -3,7 +3,7 @@ ghost use mathlib.Core.Path.{_≡_};
 ghost use Prim.Native.Nat.{_+_, _*_, _≤_};
 ghost use lib.ListN.{length};
 ghost use lib.Seq.{sets};
-ghost use Rattle.capi.specs.Image.{ringSize, slotsAt, commandsAt, imageLength, bytesOf, heldOf, baseOf, formatOf, ringWords, ringsWords, frameOf, ringAt, countsWords, countsIn, encode, decode};
+ghost use Rattle.capi.specs.Image.{ringSize, slotsAt, markerAt, commandsAt, imageLength, bytesOf, heldOf, baseOf, formatOf, ringWords, ringsWords, frameOf, ringAt, countsWords, countsIn, editionNumber, lastWords, editionBy, encode, decode};
 use crate::lent::put_words;
 use crate::lent::take_words;
 use crate::lent::window_at;
@@ -13,11 +13,12 @@ use command::frame::stride_of;
 use state::counts::Counts;
 use state::device::Device;
 use state::device::Ring;
+use state::edition::Edition;
 
 // How many words a ring has.
 const RING_WORDS: usize = 7;
 
-// The words where rings 1 to 3 stand, then the slots, the marker, the limit, the commands taken and the outcomes.
+// The words where rings 1 to 3 stand, then the slots, the marker, the limit, the commands taken, the outcomes and the edition.
 const RING_1_AT: usize = RING_WORDS;
 
 const RING_2_AT: usize = 2 * RING_WORDS;
@@ -34,7 +35,9 @@ const COMMANDS_AT: usize = LIMIT_AT + 1;
 
 const OUTCOMES_AT: usize = COMMANDS_AT + 4;
 
-pub const IMAGE_BYTES: usize = 4 * (OUTCOMES_AT + 15);
+const EDITION_AT: usize = OUTCOMES_AT + 15;
+
+pub const IMAGE_BYTES: usize = 4 * (EDITION_AT + 1);
 
 fn held_of(frame: Frame) -> u32
     ensures { λ r. ⌜ r ≡ heldOf frame ⌝ }
@@ -117,6 +120,28 @@ fn put_counts(image: &mut [u8], counts: Counts)
     put_words(image, OUTCOMES_AT, &counts.outcomes);
 }
 
+fn edition_number(edition: Edition) -> u32
+    ensures { λ r. ⌜ r ≡ editionNumber edition ⌝ }
+{
+    match edition {
+        Edition::One => 1,
+        Edition::Two => 2,
+    }
+}
+
+// The words after the slots.
+fn put_last(image: &mut [u8], d: Device)
+    requires { ⌜ length (now image) ≡ imageLength ⌝ }
+    ensures { λ _. ⌜ now (image .exit) ≡ sets (now (image .entry)) (4 * markerAt) (bytesOf (lastWords d)) ⌝ }
+{
+    let marker_and_limit = [d.marker, d.limit];
+    put_words(image, MARKER_AT, &marker_and_limit);
+    put_counts(image, d.counts);
+    let edition = d.edition;
+    let number = [edition_number(edition)];
+    put_words(image, EDITION_AT, &number);
+}
+
 pub fn put_device(image: &mut [u8], d: Device)
     requires { ⌜ length (now image) ≡ imageLength ⌝ }
     ensures { λ _. ⌜ now (image .exit) ≡ encode d ⌝ }
@@ -124,9 +149,7 @@ pub fn put_device(image: &mut [u8], d: Device)
     put_rings(image, d);
     let slots = d.slots;
     put_words(image, SLOTS_AT, &slots);
-    let marker_and_limit = [d.marker, d.limit];
-    put_words(image, MARKER_AT, &marker_and_limit);
-    put_counts(image, d.counts);
+    put_last(image, d);
 }
 
 fn frame_of(held: u32, base: u32, stride: u32, format: u32) -> Frame
@@ -170,6 +193,16 @@ fn counts_in(image: &[u8]) -> Counts
     Counts { commands, outcomes }
 }
 
+// No word is a bad edition: any but 2 is edition 1.
+fn edition_by(word: u32) -> Edition
+    ensures { λ r. ⌜ r ≡ editionBy word ⌝ }
+{
+    if word == 2 {
+        return Edition::Two;
+    }
+    Edition::One
+}
+
 pub fn device_in(image: &[u8]) -> Device
     requires { ⌜ length (now image) ≡ imageLength ⌝ }
     ensures { λ r. ⌜ r ≡ decode (now (image .entry)) ⌝ }
@@ -184,5 +217,6 @@ pub fn device_in(image: &[u8]) -> Device
     take_words(&mut slots, image, SLOTS_AT);
     let marker = word_in(image, MARKER_AT);
     let limit = word_in(image, LIMIT_AT);
-    Device::of(rings, slots, marker, limit, counts_in(image))
+    let edition = edition_by(word_in(image, EDITION_AT));
+    Device::of(rings, slots, marker, limit, counts_in(image), edition)
 }

@@ -1,4 +1,5 @@
 // The device for programs in C: its state is an image of bytes that the caller keeps.
+ghost use Rattle.state.specs.declared.edition.Start.the-variants.{Edition1, Edition2};
 ghost use Rattle.device.specs.Turn.{callOf};
 ghost use Rattle.capi.specs.Calls.{freshCall, freshWithCall, Freshens, turnCall, Leaves};
 
@@ -11,6 +12,7 @@ pub mod report;
 use crate::calls::fresh_call;
 use crate::calls::fresh_with_call;
 use crate::calls::turn_call;
+use state::edition::Start;
 
 // `memory` is the memory's length.
 #[no_mangle]
@@ -20,12 +22,32 @@ pub extern "C" fn fv_fresh(device: &mut [u8], windows: &[u8], memory: u64) -> u3
     fresh_call(device, windows, memory as usize)
 }
 
-// With a limit named.
+// Of edition 1, with a limit named.
 #[no_mangle]
 pub extern "C" fn fv_fresh_with(device: &mut [u8], windows: &[u8], memory: u64, limit: u32) -> u32
-    ensures { λ r. ⌜ Freshens (now (device .exit)) r (freshWithCall (now (device .entry)) (now (windows .entry)) memory limit) ⌝ }
+    ensures { λ r. ⌜ Freshens (now (device .exit)) r (freshWithCall (now (device .entry)) (now (windows .entry)) memory limit Edition1) ⌝ }
 {
-    fresh_with_call(device, windows, memory as usize, limit)
+    fresh_with_call(device, windows, memory as usize, limit, Start::Edition1)
+}
+
+// Of edition 2, with a limit and the starting number of all slots named.
+#[no_mangle]
+pub extern "C" fn fv_fresh_edition_2(
+    device: &mut [u8],
+    windows: &[u8],
+    memory: u64,
+    limit: u32,
+    first: u32,
+) -> u32
+    ensures { λ r. ⌜ Freshens (now (device .exit)) r (freshWithCall (now (device .entry)) (now (windows .entry)) memory limit (Edition2 first)) ⌝ }
+{
+    fresh_with_call(
+        device,
+        windows,
+        memory as usize,
+        limit,
+        Start::Edition2(first),
+    )
 }
 
 #[no_mangle]

@@ -6,7 +6,7 @@ use command::outcome::number;
 use device::turn::Answer;
 use state::refusal::refusal_number;
 
-const REPORT_WORDS: usize = 6;
+const REPORT_WORDS: usize = 7;
 
 pub const REPORT_BYTES: usize = 4 * REPORT_WORDS;
 
@@ -20,8 +20,8 @@ pub fn report_words(answer: Answer) -> [u32; REPORT_WORDS]
     ensures { λ r. ⌜ r ≡ reportWords answer ⌝ }
 {
     match answer {
-        Answer::Refused(why) => [refusal_number(why), 0, 0, 0, 0, 0],
-        Answer::Idle => [1, 0, 0, 0, 0, 0],
+        Answer::Refused(why) => [refusal_number(why), 0, 0, 0, 0, 0, 0],
+        Answer::Idle => [1, 0, 0, 0, 0, 0, 0],
         Answer::Served(report) => {
             let outcome = report.outcome;
             [
@@ -31,6 +31,7 @@ pub fn report_words(answer: Answer) -> [u32; REPORT_WORDS]
                 report.fence,
                 report.words,
                 bit(report.irq),
+                bit(report.emitted),
             ]
         }
     }

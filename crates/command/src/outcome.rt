@@ -13,7 +13,7 @@ pub enum Outcome {
     WrongPayloadBit,
     // 4: emit or wait set and rdst above 63.
     NoSuchSlot,
-    // 5: emit set and the slot holds 4,294,967,295.
+    // 5: emit set and the slot is full: in edition 1, it holds 4,294,967,295.
     SlotFull,
     // 6: an address, or SET_FB's base or stride, not a multiple of 4.
     Misaligned,

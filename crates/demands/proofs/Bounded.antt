@@ -101,5 +101,5 @@ idle-in-time d shaped R (call ∷ calls) (more lends each) enough =
 
 pub fresh-idle-in-time : FreshIdleInTime
 unfolding FreshIdleInTime IdleInTime freshDevice ringOf untakenOf untakenIn sumOf
-fresh-idle-in-time w0 w1 w2 w3 limit R calls each enough =
-    idle-in-time (freshDevice w0 w1 w2 w3 limit) (fresh-shaped w0 w1 w2 w3 limit) R calls each (omega (arith, enough))
+fresh-idle-in-time w0 w1 w2 w3 limit chosen R calls each enough =
+    idle-in-time (freshDevice w0 w1 w2 w3 limit chosen) (fresh-shaped w0 w1 w2 w3 limit chosen) R calls each (omega (arith, enough))

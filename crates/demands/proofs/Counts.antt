@@ -68,8 +68,8 @@ calls-count d shaped fit (call ∷ calls) =
 
 pub fresh-counts : FreshCounts
 unfolding FreshCounts
-fresh-counts w0 w1 w2 w3 limit R calls each =
-    let took = run-took R calls (freshDevice w0 w1 w2 w3 limit) (λ q. 0) (fresh-took R w0 w1 w2 w3 limit) each .1 in
+fresh-counts w0 w1 w2 w3 limit chosen R calls each =
+    let took = run-took chosen R calls (freshDevice w0 w1 w2 w3 limit chosen) (λ q. 0) (fresh-took chosen R w0 w1 w2 w3 limit) each .1 in
     record {
       places = λ q four. rw (took .counts q four) (sym (took .cursors q four));
       whole = λ q four n below. took .whole q four n (rw (took .counts q four) at below);

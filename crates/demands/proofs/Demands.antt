@@ -1,21 +1,25 @@
 -- The demands hold: each statement of specs/, with nothing left to assume.
-use Rattle.demands.specs.FourTurns.{FourTurns, FourTurnsByHead}
+use Rattle.demands.specs.FourTurns.{FourTurns, FourTurnsByHead, FreshFourTurns}
 use Rattle.demands.specs.Keeps.{TurnKeeps}
 use Rattle.demands.specs.Makings.{FreshMakes}
 use Rattle.demands.specs.Sound.{TurnStaysSound, TurnLeavesSound, SoundRefusals, FreshMakesSound, CallsStaySound, FreshStaysSound}
 use Rattle.demands.specs.Reports.{TurnReports}
+use Rattle.demands.specs.Editions.{TurnEditions}
 use Rattle.demands.specs.Counting.{TurnCounts}
 use Rattle.demands.specs.Counts.{CallsCount, FreshCounts}
 use Rattle.demands.specs.Bounded.{TurnsBounded, IdleInTime, FreshIdleInTime}
+use Rattle.demands.specs.Targets.{NearByDifference, NothingAsked}
 use Rattle.demands.specs.Idle.{IdleIsDone}
 use Rattle.demands.specs.EachStep.{EachStep}
 use Rattle.demands.specs.OneAnswer.{OneAnswer}
-use Rattle.demands.specs.Table.{Table, LeastLimit}
+use Rattle.demands.specs.Table.{Table, LeastLimit, RoundTheWrap}
 use Rattle.demands.proofs.FourTurns as four
+use Rattle.demands.proofs.Rising as rising
 use Rattle.demands.proofs.Keeps as keeps
 use Rattle.demands.proofs.Makings as makings
 use Rattle.demands.proofs.Sound as sound
 use Rattle.demands.proofs.Reports as reports
+use Rattle.demands.proofs.Editions as editions
 use Rattle.demands.proofs.Counting as counting
 use Rattle.demands.proofs.Counts as counts
 use Rattle.demands.proofs.Bounded as bounded
@@ -55,6 +59,10 @@ fresh-stays-sound = sound.fresh-stays-sound
 pub turn-reports : TurnReports
 turn-reports = reports.turn-reports
 
+-- demand 2: what the editions differ in
+pub turn-editions : TurnEditions
+turn-editions = editions.turn-editions
+
 -- demand 2: what is counted, on any turn, over any calls, and from fresh over unchanging rings
 pub turn-counts : TurnCounts
 turn-counts = counting.turn-counts
@@ -69,12 +77,22 @@ fresh-counts = counts.fresh-counts
 pub each-step : EachStep
 each-step = steps.each-step
 
--- demand 3: a ready ring is served within four turns
+-- demand 3: a ready ring is served within four turns, in edition 1 from any state, and in either from fresh
 pub four-turns : FourTurns
 four-turns = four.four-turns
 
 pub four-turns-by-head : FourTurnsByHead
 four-turns-by-head = four.four-turns-by-head
+
+pub fresh-four-turns : FreshFourTurns
+fresh-four-turns = four.fresh-four-turns
+
+-- what is asked of the targets in edition 2 is a bound on a difference, and in edition 1 nothing
+pub near-by-difference : NearByDifference
+near-by-difference = rising.near-by-difference
+
+pub nothing-asked : NothingAsked
+nothing-asked = rising.nothing-asked
 
 -- demand 3: turns over unchanging rings come to an end, and when the answer is idle no order of starts gets further
 pub turns-bounded : TurnsBounded
@@ -97,6 +115,9 @@ one-answer = one.one-answer
 pub table : Table
 table = worked.table
 
--- and the least limit beside them
+-- and the least limit and the wrap beside them
 pub least-limit : LeastLimit
 least-limit = worked.least-limit
+
+pub round-the-wrap : RoundTheWrap
+round-the-wrap = worked.round-the-wrap

@@ -7,16 +7,15 @@ use Prim.Native.Nat.{ℕ, zero, suc, _^_, _≤_, _<_}
 use native.Mathlib.Nat.{le-refl}
 use native.Mathlib.Omega.{arith}
 use lib.ListN.{length, getD, set}
-use lib.Seq.{getD-set-other}
+use lib.Seq.{getD-set-same, getD-set-other}
 use Rattle.command.specs.declared.header.Command.{Command}
 use Rattle.work.specs.declared.work.Performed.{Performed}
 use Rattle.command.specs.Outcome.{outcomeNumber}
 use Rattle.command.specs.Report.{emits}
 use Rattle.state.specs.declared.device.Ring.{Ring}
 use Rattle.state.specs.declared.device.Device.{Device}
-use borrow.Author.Tests.{eq-eqb}
 use Rattle.state.specs.PlusOne.{plusOneAt}
-use Rattle.state.specs.Slots.{isFull, emitted}
+use Rattle.state.specs.Slots.{emitted}
 use Rattle.state.specs.Counts.{counted, balanced}
 use Rattle.state.specs.Device.{Shaped, SlotsFit, emptyWindow, freshRing, ringOf, slotOf, commandsOf, outcomesOf, withRing, withSlots, withMarker, withCounts}
 use Rattle.state.specs.Ready.{nextRing}
@@ -36,12 +35,12 @@ put-rises (x ∷ xs) zero v (suc m) h = le-refl _
 put-rises (x ∷ xs) (suc n) v zero h = le-refl _
 put-rises (x ∷ xs) (suc n) v (suc m) h = put-rises xs n v m h
 
-pub emit-rises : (b : Bool) (d : Device) (n : ℕ) → SlotsFit d → (b ≡ true → isFull (slotOf d n) ≡ true → ⊥) → (m : ℕ)
+pub emit-rises : (b : Bool) (d : Device) (n : ℕ) → SlotsFit d → (b ≡ true → slotOf d n ≡ 4294967295 → ⊥) → (m : ℕ)
     → slotOf d m ≤ slotOf (emitTo b d n) m
 unfolding emitTo withSlots plusOneAt slotOf SlotsFit
 emit-rises true d n fit room m =
     let below : getD (d .slots) n 0 < 2 ^ 32 = fit n in
-    let not-full : getD (d .slots) n 0 ≡ 4294967295 → ⊥ = λ is. room refl (eq-eqb _ _ is) in
+    let not-full : getD (d .slots) n 0 ≡ 4294967295 → ⊥ = room refl in
     let free : getD (d .slots) n 0 < 4294967295 = omega (arith, not-full) in
     put-rises (d .slots) n (emitted (getD (d .slots) n 0)) m (omega arith)
 emit-rises false d n fit room m = le-refl _
@@ -52,8 +51,8 @@ module _ (d : Device) (q : ℕ) (c : Command) (p : Performed) where
   unfolding deviceAfter withCounts withMarker
   after-marker = refl
 
-  -- no slot is lowered
-  pub after-rises : SlotsFit d → (emits c (p .outcome) ≡ true → isFull (slotOf d (c .rdst)) ≡ true → ⊥) → (m : ℕ)
+  -- no slot is lowered unless a full one is added to
+  pub after-rises : SlotsFit d → (emits c (p .outcome) ≡ true → slotOf d (c .rdst) ≡ 4294967295 → ⊥) → (m : ℕ)
       → slotOf d m ≤ slotOf (deviceAfter d q c p) m
   unfolding deviceAfter withCounts withMarker withRing slotOf SlotsFit
   after-rises fit room m = emit-rises (emits c (p .outcome)) (withRing d q (ringAfter (ringOf d q) c (p .frame))) (c .rdst) fit room m
@@ -81,6 +80,11 @@ module _ (d : Device) (q : ℕ) (c : Command) (p : Performed) where
   pub after-emit : emits c (p .outcome) ≡ true → deviceAfter d q c p .slots ≡ set (d .slots) (c .rdst) (emitted (slotOf d (c .rdst)))
   unfolding deviceAfter withCounts withMarker withRing emitTo withSlots plusOneAt slotOf
   after-emit e = rw e
+
+  pub after-emitted : Shaped d → c .rdst < 64 → emits c (p .outcome) ≡ true
+      → slotOf (deviceAfter d q c p) (c .rdst) ≡ emitted (slotOf d (c .rdst))
+  unfolding slotOf
+  after-emitted shaped below e = rw (after-emit e) (getD-set-same (d .slots) (c .rdst) _ 0 (omega (arith, below, shaped .slots)))
 
   pub after-no-emit : emits c (p .outcome) ≡ false → deviceAfter d q c p .slots ≡ d .slots
   unfolding deviceAfter withCounts withMarker withRing emitTo withSlots

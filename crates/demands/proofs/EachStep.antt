@@ -46,7 +46,7 @@ dispatch-work : (d : Device) (call : Call) (q : ℕ) → Dispatches d call q
 unfolding dispatchedBy dispatchOf
 dispatch-work d call q is =
     let c = headIn d call q in
-    performed-work c (isFull (slotOf d (c .rdst))) (ringIn call q) (windowIn d call q) (ringOf d q .frame) (call .pack) (call .pipe) (d .limit) (is .no-fault)
+    performed-work c (isFull (d .edition) (slotOf d (c .rdst))) (ringIn call q) (windowIn d call q) (ringOf d q .frame) (call .pack) (call .pipe) (d .limit) (is .no-fault)
     ∙ work-dispatch c (ringIn call q) (windowIn d call q) (ringOf d q .frame) (call .pack) (call .pipe) (d .limit) (is .opcode)
 
 dispatch-served : (d : Device) (call : Call) → numberIn d call ≡ 0 → Dispatches d call (ringServed d call)

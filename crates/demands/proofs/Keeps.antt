@@ -12,10 +12,10 @@ use Rattle.state.specs.declared.device.Device.{Device}
 use Rattle.device.specs.declared.turn.Report.{Report}
 use Rattle.state.specs.Device.{ringOf}
 use Rattle.device.specs.Answer.{answerNumber, valuesOf}
-use Rattle.device.specs.Turn.{Call, unchanged, reportOf, finished, servedOf, turnOf}
+use Rattle.device.specs.Turn.{Call, unchanged, deviceAfter, reportOf, finished, servedOf, turnOf}
 use Rattle.demands.specs.Calls.{headIn, leftBy, numberIn, valuesIn}
 use Rattle.demands.specs.Keeps.{Same, SameBytes, OutsideOf, PipeKept, Keeps, TurnKeeps}
-use Rattle.device.proofs.Shapes.{after-limit}
+use Rattle.device.proofs.Shapes.{after-limit, after-edition}
 use Rattle.device.proofs.Turns.{servedIn, turn-cases, picked-servable}
 use Rattle.demands.proofs.Turns.{workIn, served-as}
 use Rattle.demands.proofs.Works.{window-stays, pipe-stays}
@@ -60,11 +60,12 @@ module _ (d : Device) (call : Call) where
   unfolding servedOf
   served-pipe q = pipe-stays _ _ _ _ _ _ _ _
 
-  left-limit : leftBy d call .limit ≡ d .limit
+  -- a part of the device that no served command changes
+  left-same : {A : Type 0} (part : Device → A)
+      → ((q : ℕ) → part (deviceAfter d q (headIn d call q) (workIn d call q .performed)) ≡ part d) → part (leftBy d call) ≡ part d
   unfolding unchanged servedOf finished
-  left-limit =
-      turn-cases d call (λ a. a .turned .device .limit ≡ d .limit) (λ why v. refl) (λ sound p. refl)
-      (λ q sound p. after-limit d q (headIn d call q) (workIn d call q .performed))
+  left-same part each =
+      turn-cases d call (λ a. part (a .turned .device) ≡ part d) (λ why v. refl) (λ sound p. refl) (λ q sound p. each q)
 
   pub keeps : Keeps d call
   unfolding unchanged valuesOf reportOf
@@ -88,7 +89,8 @@ module _ (d : Device) (call : Call) where
         let s = served-as d call number in
         let kept : Report → Type 0 = λ r. PipeKept (r .words) (call .pipe) (servedIn d call (s .report .ring) .pipe) in
         rw (s .values, s .was .after) (subst kept (s .was .told) (served-pipe (s .report .ring)));
-    limit = left-limit;
+    limit = left-same (λ d. d .limit) (λ q. after-limit d q _ _);
+    edition = left-same (λ d. d .edition) (λ q. after-edition d q _ _);
   }
 
 pub turn-keeps : TurnKeeps

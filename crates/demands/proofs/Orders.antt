@@ -12,7 +12,8 @@ use borrow.Author.Tests.{eq-eqb, ne-eqb}
 use Rattle.command.specs.declared.header.Command.{Command}
 use Rattle.command.proofs.Sizes.{size-least}
 use Rattle.device.specs.Untaken.{sumOf}
-use Rattle.demands.specs.Idle.{placeOf, nth, isEmitting, emitsIn, countOf, oneMore}
+use Rattle.demands.specs.RingCommands.{placeOf, nth, isEmitting}
+use Rattle.demands.specs.Idle.{emitsIn, countOf, oneMore}
 use Rattle.demands.proofs.Sums.{sum-grows, sum-most}
 
 -- 1 if the command emits to the slot, else 0
@@ -60,6 +61,14 @@ module _ (R : ℕ → List ℕ) where
   count-more n r slot four =
       sum-grows (λ q. emitsIn (R q) slot (n q)) (λ q. emitsIn (R q) slot (oneMore n r q)) (hit (nth (R r) (n r)) slot) r four
       (λ q other. rw (more-other n r q other)) (rw (more-here n r))
+
+  pub count-not-less : (n : ℕ → ℕ) (r slot : ℕ) → r < 4 → countOf R n slot ≤ countOf R (oneMore n r) slot
+  count-not-less n r slot four = omega (arith, count-more n r slot four)
+
+  -- and that is at most 1
+  pub count-one-more : (n : ℕ → ℕ) (r slot : ℕ) → r < 4 → countOf R (oneMore n r) slot ≤ countOf R n slot + 1
+  count-one-more n r slot four =
+      omega (arith, count-more n r slot four, hit-most (isEmitting (nth (R r) (n r)) && eqb (nth (R r) (n r) .rdst) slot))
 
   pub count-most : (n : ℕ → ℕ) (slot : ℕ) → countOf R n slot ≤ sumOf 4 n
   count-most n slot = sum-most (λ q. emitsIn (R q) slot (n q)) n (λ q four. emits-most (R q) slot (n q))

@@ -3,10 +3,9 @@
 use mathlib.Core.Path.{_≡_, refl, ap, subst, _∙_}
 use mathlib.Core.Bool.{Bool, true, false, _&&_, _||_}
 use mathlib.Core.Logic.{_⊎_, _↔_, inl, inr, ⊎-elim}
-use Prim.Native.Nat.{ℕ, _+_, _^_, _<_}
+use Prim.Native.Nat.{ℕ, _<_}
 use native.Mathlib.Omega.{arith}
 use lib.Dec.{eqb, ltb, leb}
-use lib.Seq.{getD-set-same}
 use borrow.Author.Tests.{eqb-true, eq-eqb, leb-true, le-leb, ltb-true, lt-ltb}
 use Rattle.command.specs.declared.header.Command.{Command}
 use Rattle.command.specs.declared.outcome.Outcome.{Outcome}
@@ -21,20 +20,20 @@ use Rattle.state.specs.declared.device.Device.{Device}
 use Rattle.device.specs.declared.turn.Report.{Report}
 use Rattle.device.specs.declared.turn.Answer.the-variants.{Served}
 use Rattle.state.specs.Device.{Shaped, SlotsFit, ringOf, slotOf}
+use Rattle.state.specs.PlusOne.{plusOne}
 use Rattle.device.specs.Answer.{Values, valuesOf, reportValues}
 use Rattle.state.specs.Ready.{readyAt, pickOf}
 use Rattle.device.specs.Turn.{Call, fenceOf, ringAfter, deviceAfter, finished, servedOf, ringIn, reportOf}
 use Rattle.device.proofs.Verdicts.{found}
 use Rattle.device.proofs.Untaken.{served-ring, other-ring}
-use Rattle.device.proofs.Shapes.{after-limit, after-shaped}
+use Rattle.device.proofs.Shapes.{after-limit, after-edition, after-shaped}
 use Rattle.demands.specs.Calls.{headIn, leftBy}
 use Rattle.demands.specs.Reports.{Signals, Interrupts, Reads, SetsFrame, Reported, Serving, TurnReports}
 use Rattle.device.proofs.Turns.{call-steady}
 use Rattle.demands.proofs.Turns.{workIn, WasServed, served-as}
-use Rattle.demands.proofs.Works.{full-slot-stays, frame-set, frame-kept}
-use Rattle.demands.proofs.Devices.{after-marker, after-fits, after-emit, after-no-emit, after-other-slot, after-counts-one}
+use Rattle.demands.proofs.Works.{frame-set, frame-kept}
+use Rattle.demands.proofs.Devices.{after-marker, after-fits, after-emitted, after-no-emit, after-other-slot, after-counts-one}
 use Rattle.demands.proofs.Emitting.{emits-in-range}
-use Rattle.state.specs.Slots.{isFull}
 
 both : (a b : Bool) → a ≡ true → b ≡ true → (a && b) ≡ true
 both a b p q = rw (p, q)
@@ -72,22 +71,19 @@ module _ (c : Command) (o : Outcome) where
       let is = eqb (c .opcode) readMem in
       rw (not-held (is && isDone o) (λ e. not (eqb-true _ _ (both-left is (isDone o) e), eqb-true _ _ (both-right is (isDone o) e))))
 
-module _ (d : Device) (q : ℕ) (c : Command) (p : Performed) (shaped : Shaped d) (fit : SlotsFit d) (four : q < 4)
-    (full : emits c (p .outcome) ≡ true → isFull (slotOf d (c .rdst)) ≡ true → ⊥) (range : emits c (p .outcome) ≡ true → c .rdst < 64)
+module _ (d : Device) (q : ℕ) (c : Command) (p : Performed) (shaped : Shaped d) (four : q < 4)
+    (range : emits c (p .outcome) ≡ true → c .rdst < 64)
     (sets : SetsFrame c (outcomeNumber (p .outcome)) → p .frame ≡ heldBy c) (kept : (SetsFrame c (outcomeNumber (p .outcome)) → ⊥) → p .frame ≡ ringOf d q .frame) where
   abbrev told : Values
   told = reportValues (reportOf d q c p)
 
-  one-more : emits c (p .outcome) ≡ true → fenceOf (emits c (p .outcome)) (slotOf d (c .rdst)) ≡ slotOf d (c .rdst) + 1
-  unfolding fenceOf SlotsFit
-  one-more e =
-      let below : slotOf d (c .rdst) < 2 ^ 32 = fit (c .rdst) in
-      let not-full : slotOf d (c .rdst) ≡ 4294967295 → ⊥ = λ is. full e (eq-eqb _ _ is) in
-      rw e (omega (arith, not-full))
+  one-more : emits c (p .outcome) ≡ true → fenceOf (emits c (p .outcome)) (slotOf d (c .rdst)) ≡ plusOne (slotOf d (c .rdst))
+  unfolding fenceOf
+  one-more e = rw e
 
   holds : emits c (p .outcome) ≡ true → slotOf (deviceAfter d q c p) (c .rdst) ≡ fenceOf (emits c (p .outcome)) (slotOf d (c .rdst))
-  unfolding fenceOf slotOf
-  holds e = rw (after-emit d q c p e, e) (getD-set-same (d .slots) (c .rdst) _ 0 (omega (arith, range e, shaped .slots)))
+  unfolding fenceOf
+  holds e = after-emitted d q c p shaped (range e) e ∙ rw e
 
   silent : (Signals c (outcomeNumber (p .outcome)) → ⊥) → emits c (p .outcome) ≡ false
   silent not = not-held (emits c (p .outcome)) (λ e. not (signals c (p .outcome) .0 e))
@@ -110,6 +106,7 @@ module _ (d : Device) (q : ℕ) (c : Command) (p : Performed) (shaped : Shaped d
     signalled = λ s. holds (signals c (p .outcome) .1 s);
     no-fence = λ not. no-fence (silent not);
     no-signal = λ not. no-signal (silent not);
+    emitted = signals c (p .outcome);
     other-slots = after-other-slot d q c p;
     words = reads c (p .outcome);
     no-words = reads-not c (p .outcome);
@@ -121,6 +118,7 @@ module _ (d : Device) (q : ℕ) (c : Command) (p : Performed) (shaped : Shaped d
     other-rings = other-ring d q c p;
     marker = after-marker d q c p;
     limit = after-limit d q c p;
+    edition = after-edition d q c p;
     counts = after-counts-one d q c p shaped four;
   }
 
@@ -139,7 +137,7 @@ reports d call report shaped fit was =
       reported =
           rw (leftBy, was .after)
           (subst (λ (r : Report). Reported d q c (valuesOf (Served r)) (deviceAfter d q c p)) (was .told)
-          (reported d q c p shaped fit (picked .0) (full-slot-stays _ _ _ _ _ _ _ _) (emits-in-range _ _ _ _ _ _ _ _)
+          (reported d q c p shaped (picked .0) (emits-in-range _ _ _ _ _ _ _ _)
           (frame-set _ _ _ _ _ _ _ _) (frame-kept _ _ _ _ _ _ _ _)));
       shaped = rw (leftBy, was .after) (after-shaped d q c p shaped);
       slots = rw (leftBy, was .after) (after-fits d q c p fit);

@@ -15,6 +15,8 @@ use Rattle.words.proofs.Choices.{both-right, not-held}
 use Rattle.work.proofs.Kept.{performed-frame}
 use Rattle.state.specs.declared.device.Window.{Window}
 use Rattle.state.specs.declared.device.Device.{Device}
+use Rattle.state.specs.declared.edition.Start.{Start}
+use Rattle.state.specs.declared.edition.Start.the-variants.{Edition1}
 use Rattle.state.specs.declared.refusal.Refusal.{Refusal}
 use Rattle.state.specs.declared.refusal.Verdict.{Verdict}
 use Rattle.state.specs.declared.refusal.Verdict.the-variants.{Sound, Refused}
@@ -66,7 +68,7 @@ module _ (d : Device) (shaped : Shaped d) (call : Call) where
         let c = headIn d call q in
         let long = window-length (ringOf d q .window .start) (ringOf d q .window .length) (call .memory) (s .fits) in
         let held = both-right (leb (ringOf d q .cursor) 65536) _ (rings-sound d state q (s .number)) in
-        rw long at (performed-frame c (isFull (slotOf d (c .rdst))) (ringIn call q) (windowIn d call q) (ringOf d q .frame) (call .pack) (call .pipe) (d .limit) (rw long held))
+        rw long at (performed-frame c (isFull (d .edition) (slotOf d (c .rdst))) (ringIn call q) (windowIn d call q) (ringOf d q .frame) (call .pack) (call .pipe) (d .limit) (rw long held))
 
     served-sound : stateSound (servedIn d call q .turned .device) ≡ true
     unfolding servedOf finished ringAfter ringSound
@@ -206,13 +208,15 @@ pub sound-refusals : SoundRefusals
 unfolding SoundRefusals
 sound-refusals d call = refused-for-lent d call
 
-fresh-sound : (w0 w1 w2 w3 : Window) (limit : ℕ) → limitFits limit ≡ true → stateSound (freshDevice w0 w1 w2 w3 limit) ≡ true
+fresh-sound : (w0 w1 w2 w3 : Window) (limit : ℕ) (chosen : Start) → limitFits limit ≡ true
+    → stateSound (freshDevice w0 w1 w2 w3 limit chosen) ≡ true
 unfolding freshDevice ringOf stateSound ringSound heldFault balanced total
-fresh-sound w0 w1 w2 w3 limit fits = rw fits
+fresh-sound w0 w1 w2 w3 limit chosen fits = rw fits
 
-fresh-fits : (memory : ℕ) (w0 w1 w2 w3 : Window) (limit : ℕ) → windowsFit (freshDevice w0 w1 w2 w3 limit) memory ≡ memoryFits memory w0 w1 w2 w3
+fresh-fits : (memory : ℕ) (w0 w1 w2 w3 : Window) (limit : ℕ) (chosen : Start)
+    → windowsFit (freshDevice w0 w1 w2 w3 limit chosen) memory ≡ memoryFits memory w0 w1 w2 w3
 unfolding freshDevice ringOf windowsFit
-fresh-fits memory w0 w1 w2 w3 limit = refl
+fresh-fits memory w0 w1 w2 w3 limit chosen = refl
 
 -- four empty windows fit every memory that is not too long
 empty-fit : (n : ℕ) → n ≤ 1048576 → memoryFits n emptyWindow emptyWindow emptyWindow emptyWindow ≡ true
@@ -222,20 +226,20 @@ empty-fit n short = rw (le-leb n 1048576 short, le-leb 0 n (omega arith))
 -- the empty device is sound, and its windows fit every memory that is not too long
 empty-sound : stateSound emptyDevice ≡ true
 unfolding emptyDevice
-empty-sound = fresh-sound emptyWindow emptyWindow emptyWindow emptyWindow defaultLimit default-fits
+empty-sound = fresh-sound emptyWindow emptyWindow emptyWindow emptyWindow defaultLimit Edition1 default-fits
 
 empty-fits : (n : ℕ) → n ≤ 1048576 → windowsFit emptyDevice n ≡ true
 unfolding emptyDevice
-empty-fits n short = fresh-fits n emptyWindow emptyWindow emptyWindow emptyWindow defaultLimit ∙ empty-fit n short
+empty-fits n short = fresh-fits n emptyWindow emptyWindow emptyWindow emptyWindow defaultLimit Edition1 ∙ empty-fit n short
 
 pub fresh-makes-sound : FreshMakesSound
 unfolding FreshMakesSound freshWith notMade
-fresh-makes-sound memory w0 w1 w2 w3 limit = go (memoryFits memory w0 w1 w2 w3) (limitFits limit) refl refl
+fresh-makes-sound memory w0 w1 w2 w3 limit chosen = go (memoryFits memory w0 w1 w2 w3) (limitFits limit) refl refl
   where
-    go : (m l : Bool) → memoryFits memory w0 w1 w2 w3 ≡ m → limitFits limit ≡ l → MakesSound memory w0 w1 w2 w3 limit
+    go : (m l : Bool) → memoryFits memory w0 w1 w2 w3 ≡ m → limitFits limit ≡ l → MakesSound memory w0 w1 w2 w3 limit chosen
     go true true fits limited = record {
-      state = rw (fits, limited) (fresh-sound w0 w1 w2 w3 limit limited);
-      windows = λ made. rw (fits, limited) (fresh-fits memory w0 w1 w2 w3 limit ∙ fits);
+      state = rw (fits, limited) (fresh-sound w0 w1 w2 w3 limit chosen limited);
+      windows = λ made. rw (fits, limited) (fresh-fits memory w0 w1 w2 w3 limit chosen ∙ fits);
       empty = λ refused n short. absurd (let z : 101 ≤ 0 = rw (fits, limited) at refused in omega arith);
     }
     go true false fits unfit = record {
@@ -258,6 +262,6 @@ calls-stay-sound d shaped memory (call ∷ calls) state fits =
 
 pub fresh-stays-sound : FreshStaysSound
 unfolding FreshStaysSound FreshMakesSound CallsStaySound
-fresh-stays-sound memory w0 w1 w2 w3 limit calls made =
-    let fresh = fresh-makes-sound memory w0 w1 w2 w3 limit in
-    calls-stay-sound (freshWith memory w0 w1 w2 w3 limit .device) (made-shaped memory w0 w1 w2 w3 limit) memory calls (fresh .state) (fresh .windows made)
+fresh-stays-sound memory w0 w1 w2 w3 limit chosen calls made =
+    let fresh = fresh-makes-sound memory w0 w1 w2 w3 limit chosen in
+    calls-stay-sound (freshWith memory w0 w1 w2 w3 limit chosen .device) (made-shaped memory w0 w1 w2 w3 limit chosen) memory calls (fresh .state) (fresh .windows made)

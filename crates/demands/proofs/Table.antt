@@ -20,7 +20,7 @@ use Rattle.kernel.specs.Run.{ifRunning, stepMore, running, stepsOf, runOf}
 use Rattle.kernel.specs.Dispatch.{ranOf, shown, ifDone, threadOf, threadMore, threadsOf, dispatchOf}
 use Rattle.kernel.proofs.Examples as kernel
 use Rattle.kernel.specs.Examples.{afterWord, packOf}
-use Rattle.demands.specs.Table.{framedUnder, colored, OutcomeOn0, oneThread, holding, vector, Table, LeastLimit}
+use Rattle.demands.specs.Table.{framedUnder, colored, OutcomeOn0, oneThread, holding, vector, Table, LeastLimit, RoundTheWrap}
 use Rattle.state.specs.Device.{defaultLimit, freshDevice, ringOf, slotOf, withRing, withSlots, withMarker, withCounts}
 use Rattle.state.specs.PlusOne.{plusOneAt}
 use Rattle.state.specs.Counts.{counted, total, balanced}
@@ -56,9 +56,9 @@ least : (dispatchOf 1 (packOf 0xFFF00297) 0 1 1 (replicate 64 0) ≡ record { ra
 unfolding dispatchOf threadsOf threadMore ifDone threadOf shown ranOf runOf stepsOf stepMore ifRunning running stepOf stops endsThread started startRegisters executed decoded opOf immediateRow systemRow effectOf aluOf applied goesOn advanced movedTo written withScalar scalarOf kernelOf kernelCount firstWord kernelWords after halfAt wordAt
 least = (refl, refl, refl)
 
--- both at once, since they open the same definitions
-worked : Table × LeastLimit
-unfolding valuesOf colored freshDevice ringOf slotOf withRing withSlots plusOneAt withMarker withCounts counted total balanced windowFits memoryFits windowsFit ringSound limitFits stateSound ringFits ringsFit verdictOf readyWith readyWhere readyAt nextRing seek bytesOfRing pickOf unchanged fenceOf emitTo ringAfter deviceAfter reportOf finished servedOf pickedOf judgedOf verdictOn turnOf rowOf waitSize payloadSize targetAt commandAt isWhole unknownOpcode wrongPayloadBit noSuchSlot headerFault frameMisaligned frameUnfit frameFault heldFault isRectangle sizeOf widthOf heightOf tooNarrow endOf slotFault misaligned unframed outside unfitFrame outOfRange unfitDispatch checkOf emits interrupts wordsRead leaves ranOutcome dispatchedBy afterDispatch heldBy workOf orElse faultOf guarded performedOf after halfAt wordAt withByte withHalf withWord rectangleEnd filledRow filled windowOf putBack kernelCount firstWord kernelWords codeCount liesInCode allBelow soundPack kernelOf
+-- all at once, since they open the same definitions
+worked : Table × LeastLimit × RoundTheWrap
+unfolding RoundTheWrap valuesOf colored freshDevice ringOf slotOf withRing withSlots plusOneAt withMarker withCounts counted total balanced windowFits memoryFits windowsFit ringSound limitFits stateSound ringFits ringsFit verdictOf readyWith readyWhere readyAt nextRing seek bytesOfRing pickOf unchanged fenceOf emitTo ringAfter deviceAfter reportOf finished servedOf pickedOf judgedOf verdictOn turnOf rowOf waitSize payloadSize targetAt commandAt isWhole unknownOpcode wrongPayloadBit noSuchSlot headerFault frameMisaligned frameUnfit frameFault heldFault isRectangle sizeOf widthOf heightOf tooNarrow endOf slotFault misaligned unframed outside unfitFrame outOfRange unfitDispatch checkOf emits interrupts wordsRead leaves ranOutcome dispatchedBy afterDispatch heldBy workOf orElse faultOf guarded performedOf after halfAt wordAt withByte withHalf withWord rectangleEnd filledRow filled windowOf putBack kernelCount firstWord kernelWords codeCount liesInCode allBelow soundPack kernelOf
 worked = (
   record {
     p1 = ((refl, refl), refl);
@@ -85,6 +85,7 @@ worked = (
     two = (refl, rw (least .1));
     wfi = (refl, rw (least .2));
   },
+  ((refl, refl), (refl, refl), (refl, refl), (refl, refl), (refl, refl)),
 )
   where
     -- a branch to itself as a whole turn
@@ -98,3 +99,6 @@ table = worked .0
 
 pub least-limit : LeastLimit
 least-limit = worked .1
+
+pub round-the-wrap : RoundTheWrap
+round-the-wrap = worked .2

@@ -1,16 +1,15 @@
 -- How far a device is in unchanging rings: what it took, what its slots hold, and what its counts tell.
 -- Assumes nothing.
-use mathlib.Core.Path.{_≡_, refl, sym, ap, _∙_}
-use mathlib.Core.Bool.{Bool, true, false, cond}
+use mathlib.Core.Path.{_≡_, refl, sym, _∙_}
+use mathlib.Core.Bool.{Bool, true, false, _&&_, cond}
 use mathlib.Core.List.{List, [], _∷_}
 use mathlib.Core.Logic.{⊎-elim}
 use Prim.Native.Nat.{ℕ, zero, suc, _+_, _≤_, _<_}
 use native.Mathlib.Omega.{arith}
 use native.Mathlib.Nat.{eq-or-lt-of-le, le-of-suc-le-suc, not-suc-le-zero}
-use lib.Dec.{eqb, lit<}
-use lib.Seq.{getD-set-same}
-use lib.ListN.{length, getD, replicate}
-use borrow.Author.Tests.{eqb-true, eqb-false, eq-eqb, ne-eqb}
+use lib.Dec.{eqb, ltb, lit<}
+use lib.ListN.{length, getD, replicate, getD-replicate, List·getD-eq-default}
+use borrow.Author.Tests.{eqb-true, eqb-false, eq-eqb, ltb-true, ltb-false}
 use Rattle.command.specs.declared.header.Command.{Command}
 use Rattle.command.specs.Report.{emits}
 use Rattle.command.specs.Header.{isWhole}
@@ -19,10 +18,12 @@ use Rattle.command.proofs.Outcomes.{outcome-below}
 use Rattle.work.specs.declared.work.Performed.{Performed}
 use Rattle.state.specs.declared.device.Window.{Window}
 use Rattle.state.specs.declared.device.Device.{Device}
+use Rattle.state.specs.declared.edition.Start.{Start}
 use Rattle.state.specs.declared.refusal.Verdict.the-variants.{Sound}
 use Rattle.state.specs.declared.ready.Picked.the-variants.{Ring as RingOf}
 use Rattle.state.specs.Device.{Shaped, freshDevice, ringOf, slotOf, commandsOf}
-use Rattle.state.specs.Slots.{emitted}
+use Rattle.state.specs.Edition.{editionOf, firstOf}
+use Rattle.state.specs.Slots.{isFull, emitted}
 use Rattle.state.specs.PlusOne.{plusOne}
 use Rattle.state.specs.Counts.{counted, total}
 use Rattle.state.proofs.Totals.{count-within, total-most}
@@ -31,64 +32,69 @@ use Rattle.device.specs.Turn.{Call, unchanged, deviceAfter, finished, servedOf,
 use Rattle.device.specs.Untaken.{sumOf}
 use Rattle.device.proofs.Verdicts.{each-of-four}
 use Rattle.device.proofs.Turns.{servedIn, turn-cases, call-steady, picked-servable}
-use Rattle.device.proofs.Shapes.{after-counts, after-shaped, fresh-shaped}
+use Rattle.device.proofs.Shapes.{after-edition, after-counts, after-shaped, fresh-shaped}
 use Rattle.demands.specs.Calls.{headIn, answerOf, leftBy, servedWith, servedWithIn, lastOf, isRefused, EachHeard, none, more}
 use Rattle.demands.specs.Bounded.{Lends, served, taken}
-use Rattle.demands.specs.Idle.{placeOf, nth, isEmitting, emitsIn, countOf, oneMore}
+use Rattle.demands.specs.RingCommands.{placeOf, nth, isEmitting}
+use Rattle.demands.specs.Idle.{emitsIn, countOf, oneMore}
 use Rattle.demands.proofs.Answers.{refused-serves}
 use Rattle.demands.proofs.Turns.{workIn, served-heard}
 use Rattle.demands.proofs.Works.{emits-when-sound}
-use Rattle.demands.proofs.Devices.{after-emit, after-no-emit, after-other-slot}
+use Rattle.demands.proofs.Devices.{after-emitted, after-no-emit, after-other-slot}
 use Rattle.demands.proofs.Served.{served-cursor, served-others, served-is}
 use Rattle.demands.proofs.Emitting.{emitting-slot}
+use Rattle.demands.proofs.Rising.{Holds, holds-first, holds-more, holds-free, zero-free}
 use Rattle.demands.proofs.Orders.{hit, place-least, more-here, more-other, count-more, count-most}
 use Rattle.demands.proofs.Counting.{served-one}
 
 -- the device has taken t q commands of each ring q
-pub record Took (R : ℕ → List ℕ) (d : Device) (t : ℕ → ℕ) : Type 0 where
+pub record Took (chosen : Start) (R : ℕ → List ℕ) (d : Device) (t : ℕ → ℕ) : Type 0 where
   pub shaped : Shaped d
+  pub edition : d .edition ≡ editionOf chosen
   pub cursors : (q : ℕ) → q < 4 → ringOf d q .cursor ≡ placeOf (R q) (t q)
-  pub slots : (s : ℕ) → slotOf d s ≡ countOf R t s
+  pub slots : (s : ℕ) → s < 64 → Holds chosen (slotOf d s) (countOf R t s)
   pub counts : (q : ℕ) → q < 4 → commandsOf d q ≡ t q
   pub whole : (q : ℕ) → q < 4 → (n : ℕ) → n < t q → isWhole (R q) (placeOf (R q) n) ≡ true
   pub sums : total (d .counts .outcomes) ≡ total (d .counts .commands)
 
--- a slot that is not full has one more where a command emits to it
-module _ (d : Device) (q : ℕ) (c : Command) (p : Performed) (shaped : Shaped d) (free : slotOf d (c .rdst) < 4294967295)
-    (when : emits c (p .outcome) ≡ isEmitting c) (s : ℕ) where
+-- a slot changes exactly where a command emits to it
+module _ (d : Device) (q : ℕ) (c : Command) (p : Performed) (shaped : Shaped d) (when : emits c (p .outcome) ≡ isEmitting c) (s : ℕ) where
   put : isEmitting c ≡ true → slotOf (deviceAfter d q c p) (c .rdst) ≡ emitted (slotOf d (c .rdst))
-  unfolding slotOf
-  put e = rw (after-emit d q c p (when ∙ e)) (getD-set-same (d .slots) (c .rdst) _ 0 (omega (arith, emitting-slot c e, shaped .slots)))
+  put e = after-emitted d q c p shaped (emitting-slot c e) (when ∙ e)
 
   stays : isEmitting c ≡ false → slotOf (deviceAfter d q c p) s ≡ slotOf d s
   unfolding slotOf
   stays e = rw (after-no-emit d q c p (when ∙ e))
 
-  slot-hit : slotOf (deviceAfter d q c p) s ≡ slotOf d s + hit c s
-  slot-hit = go (isEmitting c) refl (eqb (c .rdst) s) refl
+  slot-after : slotOf (deviceAfter d q c p) s ≡ cond (isEmitting c && eqb (c .rdst) s) (emitted (slotOf d s)) (slotOf d s)
+  slot-after = go (isEmitting c) refl (eqb (c .rdst) s) refl
     where
-      go : (b : Bool) → isEmitting c ≡ b → (t : Bool) → eqb (c .rdst) s ≡ t → slotOf (deviceAfter d q c p) s ≡ slotOf d s + hit c s
-      go true e true same =
-          let hits : hit c s ≡ 1 = rw (e, same) in
-          let new : slotOf (deviceAfter d q c p) s ≡ emitted (slotOf d s) = rw (← eqb-true (c .rdst) s same) (put e) in
-          let room : slotOf d s < 4294967295 = rw (eqb-true (c .rdst) s same) at free in
-          omega (arith, hits, new, room)
-      go true e false other =
-          let misses : hit c s ≡ 0 = rw (e, other) in
-          omega (arith, misses, after-other-slot d q c p s (λ same. eqb-false (c .rdst) s other (sym same)))
-      go false e t same =
-          let misses : hit c s ≡ 0 = rw e in
-          omega (arith, misses, stays e)
+      go : (b : Bool) → isEmitting c ≡ b → (t : Bool) → eqb (c .rdst) s ≡ t
+          → slotOf (deviceAfter d q c p) s ≡ cond (b && t) (emitted (slotOf d s)) (slotOf d s)
+      go true e true same = rw (← eqb-true (c .rdst) s same) (put e)
+      go true e false other = after-other-slot d q c p s (λ same. eqb-false (c .rdst) s other (sym same))
+      go false e t same = stays e
 
 -- a ring holds at most 4,096 commands
-module _ (R : ℕ → List ℕ) (d : Device) (t : ℕ → ℕ) (took : Took R d t) (call : Call) (sound : verdictOn d call ≡ Sound) where
+module _ (chosen : Start) (R : ℕ → List ℕ) (d : Device) (t : ℕ → ℕ) (took : Took chosen R d t) (call : Call) (sound : verdictOn d call ≡ Sound) where
   few : (q : ℕ) → q < 4 → t q ≤ 4096
   few q four = omega (arith, place-least (R q) (t q), took .cursors q four, call-steady d call sound .cursors q four)
 
-  -- so no slot is full
-  slot-free : (s : ℕ) → slotOf d s < 4294967295
+  -- so few emit to a slot
+  pub few-emits : (s : ℕ) → countOf R t s ≤ 16384
   unfolding sumOf
-  slot-free s = omega (arith, took .slots s, count-most R t s, few 0 (lit< tt), few 1 (lit< tt), few 2 (lit< tt), few 3 (lit< tt))
+  few-emits s = omega (arith, count-most R t s, few 0 (lit< tt), few 1 (lit< tt), few 2 (lit< tt), few 3 (lit< tt))
+
+  -- and none is full
+  slot-free : (s : ℕ) → isFull (d .edition) (slotOf d s) ≡ false
+  unfolding slotOf
+  slot-free s = rw (took .edition) (go (ltb s 64) refl)
+    where
+      go : (b : Bool) → ltb s 64 ≡ b → isFull (editionOf chosen) (slotOf d s) ≡ false
+      go true e = holds-free chosen (slotOf d s) (countOf R t s) (few-emits s) (took .slots s (ltb-true s 64 e))
+      go false e =
+          let past : length (d .slots) ≤ s = omega (arith, ltb-false s 64 e, took .shaped .slots) in
+          rw (List·getD-eq-default (d .slots) 0 past) (zero-free chosen)
 
   -- and no count goes round
   few-in-all : total (d .counts .commands) ≤ 16384
@@ -99,9 +105,9 @@ module _ (R : ℕ → List ℕ) (d : Device) (t : ℕ → ℕ) (took : Took R d 
       λ n below. let one : n < 4 = omega (arith, four, below) in omega (arith, took .counts n one, few n one) in
       omega (arith, four, total-most (d .counts .commands) each)
 
-module _ (R : ℕ → List ℕ) where
+module _ (chosen : Start) (R : ℕ → List ℕ) where
   -- a served ring has one more command taken
-  module _ (d : Device) (t : ℕ → ℕ) (took : Took R d t) (call : Call) (lends : Lends R call) (r : ℕ)
+  module _ (d : Device) (t : ℕ → ℕ) (took : Took chosen R d t) (call : Call) (lends : Lends R call) (r : ℕ)
       (sound : verdictOn d call ≡ Sound) (pick : pickIn d call ≡ RingOf r) where
     ring-below : r < 4
     ring-below = picked-servable d call r sound pick .number
@@ -121,15 +127,18 @@ module _ (R : ℕ → List ℕ) where
             let other = eqb-false q r e in
             rw (more-other t r q other) (served-others d call r q other ∙ took .cursors q four)
 
-    next-slot : (s : ℕ) → slotOf (servedIn d call r .turned .device) s ≡ countOf R (oneMore t r) s
+    next-slot : (s : ℕ) → s < 64 → Holds chosen (slotOf (servedIn d call r .turned .device) s) (countOf R (oneMore t r) s)
     unfolding servedOf finished
-    next-slot s =
+    next-slot s below =
         let c = headIn d call r in
-        let free = slot-free R d t took call sound (c .rdst) in
-        let not-full = ne-eqb (slotOf d (c .rdst)) 4294967295 (λ is. omega (arith, free, is)) in
-        let hits = slot-hit d r c (workIn d call r .performed) (took .shaped) free (emits-when-sound _ _ _ _ _ _ _ _ not-full) s in
-        let same : hit c s ≡ hit (nth (R r) (t r)) s = ap (λ k. hit k s) head in
-        omega (arith, hits, same, took .slots s, count-more R t r s ring-below)
+        let free = slot-free chosen R d t took call sound (c .rdst) in
+        let more = holds-more chosen (isEmitting c && eqb (c .rdst) s) _ _ (few-emits chosen R d t took call sound s) (took .slots s below) in
+        let counts : countOf R t s + hit c s ≡ countOf R (oneMore t r) s = rw head (sym (count-more R t r s ring-below)) in
+        rw (slot-after d r c (workIn d call r .performed) (took .shaped) (emits-when-sound _ _ _ _ _ _ _ _ free) s, ← counts) more
+
+    next-edition : servedIn d call r .turned .device .edition ≡ editionOf chosen
+    unfolding servedOf finished
+    next-edition = after-edition d r (headIn d call r) (workIn d call r .performed) ∙ took .edition
 
     next-shaped : Shaped (servedIn d call r .turned .device)
     unfolding servedOf finished
@@ -140,7 +149,7 @@ module _ (R : ℕ → List ℕ) where
     next-counts q four = served-one d (took .shaped) call r sound pick .commands q ∙ go (eqb q r)
       where
         go : (b : Bool) → cond b (plusOne (commandsOf d q)) (commandsOf d q) ≡ cond b (suc (t q)) (t q)
-        go true = omega (arith, took .counts q four, few R d t took call sound q four)
+        go true = omega (arith, took .counts q four, few chosen R d t took call sound q four)
         go false = took .counts q four
 
     next-whole : (q : ℕ) → q < 4 → (n : ℕ) → n < oneMore t r q → isWhole (R q) (placeOf (R q) n) ≡ true
@@ -161,15 +170,16 @@ module _ (R : ℕ → List ℕ) where
     next-sums =
         let p = workIn d call r .performed in
         let k = outcomeNumber (p .outcome) in
-        let all = few-in-all R d t took call sound in
+        let all = few-in-all chosen R d t took call sound in
         let ring = total-changes (d .counts .commands) r (omega (arith, took .shaped .commands, ring-below)) in
         let outcome = total-changes (d .counts .outcomes) k (omega (arith, took .shaped .outcomes, outcome-below (p .outcome))) in
         rw (after-counts d r (headIn d call r) p)
         (omega (arith, took .sums, all, ring, outcome, count-within (d .counts .commands) r, count-within (d .counts .outcomes) k))
 
-    next-took : Took R (servedIn d call r .turned .device) (oneMore t r)
+    pub next-took : Took chosen R (servedIn d call r .turned .device) (oneMore t r)
     next-took = record {
       shaped = next-shaped;
+      edition = next-edition;
       cursors = next-cursor;
       slots = next-slot;
       counts = next-counts;
@@ -184,21 +194,21 @@ module _ (R : ℕ → List ℕ) where
         go true e = let here = eqb-true q r e in rw (here, more-here t r, eq-eqb r r refl) (omega arith)
         go false e = rw (more-other t r q (eqb-false q r e), e) (omega arith)
 
-  turn-took : (d : Device) (t : ℕ → ℕ) → Took R d t → (call : Call) → (isRefused (answerOf d call) ≡ false → Lends R call)
-      → (u : ℕ → ℕ) × Took R (leftBy d call) u × ((q : ℕ) → u q ≡ t q + served (answerOf d call) q)
+  turn-took : (d : Device) (t : ℕ → ℕ) → Took chosen R d t → (call : Call) → (isRefused (answerOf d call) ≡ false → Lends R call)
+      → (u : ℕ → ℕ) × Took chosen R (leftBy d call) u × ((q : ℕ) → u q ≡ t q + served (answerOf d call) q)
   unfolding unchanged servedWith
   turn-took d t took call =
       turn-cases d call
       (λ a. (isRefused (a .turned .answer) ≡ false → Lends R call)
-      → (u : ℕ → ℕ) × Took R (a .turned .device) u × ((q : ℕ) → u q ≡ t q + served (a .turned .answer) q))
+      → (u : ℕ → ℕ) × Took chosen R (a .turned .device) u × ((q : ℕ) → u q ≡ t q + served (a .turned .answer) q))
       (λ why v lends. (t, took, λ q. omega (arith, refused-serves (λ values. values .ring) why q)))
       (λ v p lends. (t, took, λ q. omega arith))
       (λ r v p lends.
       let lent = lends (served-heard d call r) in
       (oneMore t r, next-took d t took call lent r v p, next-taken d t took call lent r v p))
 
-  pub run-took : (calls : List Call) (d : Device) (t : ℕ → ℕ) → Took R d t → EachHeard (Lends R) d calls
-      → (u : ℕ → ℕ) × Took R (lastOf d calls) u × ((q : ℕ) → u q ≡ t q + taken d calls q)
+  pub run-took : (calls : List Call) (d : Device) (t : ℕ → ℕ) → Took chosen R d t → EachHeard (Lends R) d calls
+      → (u : ℕ → ℕ) × Took chosen R (lastOf d calls) u × ((q : ℕ) → u q ≡ t q + taken d calls q)
   unfolding lastOf servedWithIn
   run-took [] d t took none = (t, took, λ q. omega arith)
   run-took (call ∷ calls) d t took (more lends each) =
@@ -212,13 +222,19 @@ zeros (suc k) zero = refl
 zeros (suc k) (suc n) = zeros k n
 
 -- a fresh device has taken nothing
-pub fresh-took : (R : ℕ → List ℕ) (w0 w1 w2 w3 : Window) (limit : ℕ) → Took R (freshDevice w0 w1 w2 w3 limit) (λ q. 0)
-unfolding freshDevice slotOf ringOf commandsOf placeOf emitsIn sumOf total
-fresh-took R w0 w1 w2 w3 limit = record {
-  shaped = fresh-shaped w0 w1 w2 w3 limit;
-  cursors = each-of-four (λ q. ringOf (freshDevice w0 w1 w2 w3 limit) q .cursor ≡ 0) refl refl refl refl;
-  slots = zeros 64;
-  counts = λ q four. zeros 4 q;
-  whole = λ q four n below. absurd (not-suc-le-zero below);
-  sums = refl;
-}
+module _ (chosen : Start) (R : ℕ → List ℕ) (w0 w1 w2 w3 : Window) (limit : ℕ) where
+  fresh-slots : (s : ℕ) → s < 64 → Holds chosen (slotOf (freshDevice w0 w1 w2 w3 limit chosen) s) 0
+  unfolding freshDevice slotOf
+  fresh-slots s below = rw (getD-replicate 64 s (firstOf chosen) 0 below) (holds-first chosen)
+
+  pub fresh-took : Took chosen R (freshDevice w0 w1 w2 w3 limit chosen) (λ q. 0)
+  unfolding freshDevice ringOf commandsOf placeOf emitsIn sumOf total
+  fresh-took = record {
+    shaped = fresh-shaped w0 w1 w2 w3 limit chosen;
+    edition = refl;
+    cursors = each-of-four (λ q. ringOf (freshDevice w0 w1 w2 w3 limit chosen) q .cursor ≡ 0) refl refl refl refl;
+    slots = fresh-slots;
+    counts = λ q four. zeros 4 q;
+    whole = λ q four n below. absurd (not-suc-le-zero below);
+    sums = refl;
+  }

@@ -14,10 +14,10 @@ use Rattle.device.specs.declared.turn.Report.{Report}
 use Rattle.device.specs.declared.turn.Answer.{Answer}
 use Rattle.device.specs.declared.turn.Answer.the-variants.{Refused as RefusedFor, Idle, Served}
 use Rattle.state.specs.Device.{ringOf, slotOf}
-use Rattle.device.specs.Answer.{valuesOf}
-use Rattle.device.specs.Turn.{Call, unchanged, reportOf, finished, servedOf, verdictOn, turnOf, ringIn, pickIn}
-use Rattle.demands.specs.Calls.{headIn, answerOf, numberIn, valuesIn, isRefused}
-use Rattle.device.proofs.Answers.{served-report}
+use Rattle.device.specs.Answer.{Values, answerNumber, valuesOf, reportValues}
+use Rattle.device.specs.Turn.{Call, unchanged, deviceAfter, reportOf, finished, servedOf, verdictOn, turnOf, ringIn, pickIn}
+use Rattle.demands.specs.Calls.{headIn, answerOf, leftBy, numberIn, valuesIn, isRefused}
+use Rattle.device.proofs.Answers.{refusal-least, served-report}
 use Rattle.state.specs.Slots.{isFull}
 use Rattle.device.proofs.Turns.{servedIn, turn-cases}
 
@@ -30,7 +30,7 @@ toldBy other (Served report) = report
 -- ring q's command, and what is reported of it
 abbrev pub workIn : Device → Call → ℕ → Left
 workIn d call q =
-    performedOf (headIn d call q) (isFull (slotOf d (headIn d call q .rdst))) (ringIn call q)
+    performedOf (headIn d call q) (isFull (d .edition) (slotOf d (headIn d call q .rdst))) (ringIn call q)
     (windowOf (ringOf d q .window .start) (ringOf d q .window .length) (call .memory)) (ringOf d q .frame) (call .pack) (call .pipe) (d .limit)
 
 abbrev pub reportIn : Device → Call → ℕ → Report
@@ -65,6 +65,17 @@ pub served-as : (d : Device) (call : Call) → numberIn d call ≡ 0 → ServedA
 served-as d call number =
     let told = served-report (answerOf d call) number in
     record { report = told .0; was = was-served d call (told .0) (told .1); values = ap valuesOf (told .1) }
+
+-- what holds of a turn that serves ring q, whichever it is, holds of one whose number is 0
+pub served-has : (d : Device) (call : Call) (P : Values → Device → Type 0)
+    → ((q : ℕ) → P (reportValues (reportIn d call q)) (deviceAfter d q (headIn d call q) (workIn d call q .performed))) → numberIn d call ≡ 0
+    → P (valuesIn d call) (leftBy d call)
+unfolding unchanged servedOf finished valuesOf
+served-has d call P each =
+    turn-cases d call (λ a. answerNumber (a .turned .answer) ≡ 0 → P (valuesOf (a .turned .answer)) (a .turned .device))
+    (λ why v number. absurd (omega (arith, refusal-least why, number)))
+    (λ sound p number. absurd (omega (arith, number)))
+    (λ q sound p number. each q)
 
 -- a served call is not refused
 pub served-heard : (d : Device) (call : Call) (r : ℕ) → isRefused (servedIn d call r .turned .answer) ≡ false

@@ -5,6 +5,7 @@ use mathlib.Core.List.{List, _∷_}
 use lib.ListN.{length}
 use Rattle.state.specs.declared.device.Window.{Window}
 use Rattle.state.specs.declared.device.Device.{Device}
+use Rattle.state.specs.declared.edition.Start.{Start}
 use Rattle.device.specs.declared.turn.Answer.{Answer}
 use Rattle.state.specs.Device.{Shaped, freshDevice}
 use Rattle.device.specs.Turn.{Call, ringIn}
@@ -50,5 +51,6 @@ IdleInTime = (d : Device) → Shaped d → IdleInTimeFrom d
 -- from fresh, the bytes not yet taken are those of the four rings
 unfoldable pub FreshIdleInTime : Type 0
 FreshIdleInTime =
-    (w0 w1 w2 w3 : Window) (limit : ℕ) (R : ℕ → List ℕ) (calls : List Call) → EachHeard (Lends R) (freshDevice w0 w1 w2 w3 limit) calls
-    → sumOf 4 (λ q. length (R q)) < 16 * heard (freshDevice w0 w1 w2 w3 limit) calls → SaysIdle (freshDevice w0 w1 w2 w3 limit) calls
+    (w0 w1 w2 w3 : Window) (limit : ℕ) (chosen : Start) (R : ℕ → List ℕ) (calls : List Call)
+    → EachHeard (Lends R) (freshDevice w0 w1 w2 w3 limit chosen) calls
+    → sumOf 4 (λ q. length (R q)) < 16 * heard (freshDevice w0 w1 w2 w3 limit chosen) calls → SaysIdle (freshDevice w0 w1 w2 w3 limit chosen) calls

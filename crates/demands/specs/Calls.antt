@@ -36,6 +36,10 @@ valuesIn d call = valuesOf (answerOf d call)
 abbrev pub ringServed : Device → Call → ℕ
 ringServed d call = valuesIn d call .ring
 
+-- the command that a call serves; ring 0's head if it serves none
+abbrev pub commandServed : Device → Call → Command
+commandServed d call = headIn d call (ringServed d call)
+
 -- the answer is a refusal: its number is 101 or above
 unfoldable pub isRefused : Answer → Bool
 isRefused answer = leb 101 (answerNumber answer)

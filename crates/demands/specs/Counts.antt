@@ -6,12 +6,13 @@ use mathlib.Core.List.{List}
 use Rattle.command.specs.Header.{isWhole}
 use Rattle.state.specs.declared.device.Window.{Window}
 use Rattle.state.specs.declared.device.Device.{Device}
+use Rattle.state.specs.declared.edition.Start.{Start}
 use Rattle.state.specs.Counts.{total}
 use Rattle.state.specs.Device.{Shaped, CountsFit, freshDevice, ringOf, commandsOf, outcomesOf}
 use Rattle.device.specs.Turn.{Call}
 use Rattle.demands.specs.Calls.{lastOf, servedWithIn, EachHeard}
 use Rattle.demands.specs.Bounded.{Lends, taken}
-use Rattle.demands.specs.Idle.{placeOf}
+use Rattle.demands.specs.RingCommands.{placeOf}
 
 -- how many of the commands that the calls take have outcome k
 abbrev pub endedWith : Device → List Call → ℕ → ℕ
@@ -38,5 +39,6 @@ pub record CountsTell (R : ℕ → List ℕ) (d : Device) : Type 0 where
 -- so after any calls from fresh of which those that are not refused lend R
 unfoldable pub FreshCounts : Type 0
 FreshCounts =
-    (w0 w1 w2 w3 : Window) (limit : ℕ) (R : ℕ → List ℕ) (calls : List Call) → EachHeard (Lends R) (freshDevice w0 w1 w2 w3 limit) calls
-    → CountsTell R (lastOf (freshDevice w0 w1 w2 w3 limit) calls)
+    (w0 w1 w2 w3 : Window) (limit : ℕ) (chosen : Start) (R : ℕ → List ℕ) (calls : List Call)
+    → EachHeard (Lends R) (freshDevice w0 w1 w2 w3 limit chosen) calls
+    → CountsTell R (lastOf (freshDevice w0 w1 w2 w3 limit chosen) calls)

@@ -47,7 +47,7 @@ windowIn d call q = windowOf (ringOf d q .window .start) (ringOf d q .window .le
 -- ring q's head command is a DISPATCH_1D with no fault
 pub record Dispatches (d : Device) (call : Call) (q : ℕ) : Type 0 where
   pub opcode : headIn d call q .opcode ≡ dispatch1D
-  pub no-fault : isDone (faultOf (headIn d call q) (isFull (slotOf d (headIn d call q .rdst))) (length (windowIn d call q)) (ringOf d q .frame) (call .pack)) ≡ true
+  pub no-fault : isDone (faultOf (headIn d call q) (isFull (d .edition) (slotOf d (headIn d call q .rdst))) (length (windowIn d call q)) (ringOf d q .frame) (call .pack)) ≡ true
 
 -- its kernel, number arg2 of the pack
 abbrev pub kernelIn : Device → Call → ℕ → Kernel

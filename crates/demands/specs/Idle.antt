@@ -1,34 +1,21 @@
 -- Demand 3, second part: when the answer is idle, no order of starts gets further than the device did.
 use Prim.Native.Nat.{ℕ, zero, suc, _+_, _≤_, _<_}
 use mathlib.Core.Path.{_≡_}
-use mathlib.Core.Bool.{Bool, true, _&&_, cond}
+use mathlib.Core.Bool.{true, _&&_, cond}
 use mathlib.Core.List.{List}
 use lib.Dec.{eqb}
-use Rattle.command.specs.declared.header.Command.{Command}
-use Rattle.command.specs.Flags.{emitBit}
-use Rattle.command.specs.Faults.{headerFault}
-use Rattle.command.specs.Header.{commandAt, isWhole}
-use Rattle.command.specs.Outcome.{isDone}
+use Rattle.command.specs.Header.{isWhole}
 use Rattle.state.specs.declared.device.Window.{Window}
+use Rattle.state.specs.declared.edition.Start.{Start}
 use Rattle.state.specs.Device.{freshDevice}
+use Rattle.state.specs.Edition.{editionOf, firstOf}
 use Rattle.state.specs.Ready.{readyWith}
 use Rattle.device.specs.Turn.{Call}
 use Rattle.device.specs.Untaken.{sumOf}
 use Rattle.demands.specs.Calls.{numberIn, lastOf, EachHeard}
 use Rattle.demands.specs.Bounded.{Lends, taken}
-
--- where the n-th command of a ring begins
-unfoldable pub placeOf : List ℕ → ℕ → ℕ
-placeOf b zero = 0
-placeOf b (suc n) = placeOf b n + commandAt b (placeOf b n) .size
-
--- the n-th command of a ring
-abbrev pub nth : List ℕ → ℕ → Command
-nth b n = commandAt b (placeOf b n)
-
--- a command that emits: its emit bit is set and it has no header fault
-unfoldable pub isEmitting : Command → Bool
-isEmitting c = emitBit (c .flags) && isDone (headerFault c)
+use Rattle.demands.specs.RingCommands.{placeOf, nth, isEmitting}
+use Rattle.demands.specs.Targets.{TargetsNear}
 
 -- how many of a ring's first n commands emit to a slot: a plain count
 unfoldable pub emitsIn : List ℕ → ℕ → ℕ → ℕ
@@ -43,17 +30,20 @@ countOf R n slot = sumOf 4 (λ q. emitsIn (R q) slot (n q))
 unfoldable pub oneMore : (ℕ → ℕ) → ℕ → ℕ → ℕ
 oneMore n q r = cond (eqb r q) (suc (n r)) (n r)
 
--- an order in which n q commands of each ring q start: nothing has started, or
--- one more has, which is whole, and ready against the count of those started before it
-pub data Order (R : ℕ → List ℕ) : (ℕ → ℕ) → Type 0 where
-  nothing : Order R (λ q. 0)
-  start : {n : ℕ → ℕ} → Order R n → (q : ℕ) → q < 4 → isWhole (R q) (placeOf (R q) (n q)) ≡ true
-      → readyWith (nth (R q) (n q)) (countOf R n (nth (R q) (n q) .rdst)) ≡ true → Order R (oneMore n q)
+-- an order in which n q commands of each ring q start: nothing has started, or one more has, which is whole, and ready by the
+-- edition's rule against the starting number plus the count of the emits to its slot started before it; in edition 1 that is the
+-- count alone
+pub data Order (chosen : Start) (R : ℕ → List ℕ) : (ℕ → ℕ) → Type 0 where
+  nothing : Order chosen R (λ q. 0)
+  start : {n : ℕ → ℕ} → Order chosen R n → (q : ℕ) → q < 4 → isWhole (R q) (placeOf (R q) (n q)) ≡ true
+      → readyWith (editionOf chosen) (nth (R q) (n q)) (firstOf chosen + countOf R n (nth (R q) (n q) .rdst)) ≡ true
+      → Order chosen R (oneMore n q)
 
--- after calls from fresh, one more call answers idle: then no order has started more of a ring than the device took
+-- after calls from fresh, one more call answers idle: then no order has started more of a ring than the device took; of the
+-- rings only edition 2 asks something, that their targets are near the starting number
 unfoldable pub IdleIsDone : Type 0
 IdleIsDone =
-    (w0 w1 w2 w3 : Window) (limit : ℕ) (R : ℕ → List ℕ) (calls : List Call) (last : Call)
-    → EachHeard (Lends R) (freshDevice w0 w1 w2 w3 limit) calls → Lends R last
-    → numberIn (lastOf (freshDevice w0 w1 w2 w3 limit) calls) last ≡ 1
-    → (n : ℕ → ℕ) → Order R n → (q : ℕ) → n q ≤ taken (freshDevice w0 w1 w2 w3 limit) calls q
+    (w0 w1 w2 w3 : Window) (limit : ℕ) (chosen : Start) (R : ℕ → List ℕ) (calls : List Call) (last : Call) → TargetsNear chosen R
+    → EachHeard (Lends R) (freshDevice w0 w1 w2 w3 limit chosen) calls → Lends R last
+    → numberIn (lastOf (freshDevice w0 w1 w2 w3 limit chosen) calls) last ≡ 1
+    → (n : ℕ → ℕ) → Order chosen R n → (q : ℕ) → n q ≤ taken (freshDevice w0 w1 w2 w3 limit chosen) calls q

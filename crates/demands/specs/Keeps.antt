@@ -11,7 +11,7 @@ use Rattle.device.specs.Answer.{noValues, valuesOf}
 use Rattle.device.specs.Turn.{Call, TurnEnd, turnOf}
 use Rattle.demands.specs.Calls.{leftBy, numberIn, valuesIn, ringServed}
 
--- device, memory and pipe are as they were, and nothing is reported: zeros and no IRQ
+-- device, memory and pipe are as they were, and nothing is reported: zeros, no IRQ and no fence emitted
 pub record Same (d : Device) (call : Call) (end : TurnEnd) : Type 0 where
   pub device : end .turned .device ≡ d
   pub memory : end .memory ≡ call .memory
@@ -49,8 +49,9 @@ pub record Keeps (d : Device) (call : Call) : Type 0 where
   pub long : length (turnOf d call .memory) ≡ length (call .memory)
   -- the pipe keeps its length, and its bytes past the words read
   pub pipe : numberIn d call ≡ 0 → PipeKept (valuesIn d call .words) (call .pipe) (turnOf d call .pipe)
-  -- no turn, served, idle or refused, changes the limit
+  -- no turn, served, idle or refused, changes the limit or the edition
   pub limit : leftBy d call .limit ≡ d .limit
+  pub edition : leftBy d call .edition ≡ d .edition
 
 unfoldable pub TurnKeeps : Type 0
 TurnKeeps = (d : Device) (call : Call) → Keeps d call

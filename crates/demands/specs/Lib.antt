@@ -3,8 +3,11 @@ pub mod Keeps
 pub mod Makings
 pub mod Counting
 pub mod Reports
-pub mod FourTurns
+pub mod Editions
+pub mod RingCommands
+pub mod Targets
 pub mod Bounded
+pub mod FourTurns
 pub mod Idle
 pub mod Counts
 pub mod Table

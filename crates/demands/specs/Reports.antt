@@ -9,6 +9,7 @@ use Rattle.command.specs.Opcode.{readMem, setFb}
 use Rattle.work.specs.Work.{heldBy}
 use Rattle.state.specs.declared.device.Device.{Device}
 use Rattle.state.specs.Device.{Shaped, SlotsFit, ringOf, slotOf}
+use Rattle.state.specs.PlusOne.{plusOne}
 use Rattle.device.specs.Answer.{Values}
 use Rattle.state.specs.Ready.{readyAt, nextRing}
 use Rattle.device.specs.Turn.{Call, ringIn}
@@ -33,12 +34,14 @@ SetsFrame c outcome = (c .opcode ≡ setFb) × (outcome ≡ 0)
 
 -- these values are reported of command c of ring q, and the device is left so
 pub record Reported (d : Device) (q : ℕ) (c : Command) (v : Values) (after : Device) : Type 0 where
-  -- a fence is one more than its slot held, and the slot holds it now
-  pub fence : Signals c (v .outcome) → v .fence ≡ slotOf d (c .rdst) + 1
+  -- a fence is one more than its slot held, from 4,294,967,295 it is 0, and the slot holds it now
+  pub fence : Signals c (v .outcome) → v .fence ≡ plusOne (slotOf d (c .rdst))
   pub signalled : Signals c (v .outcome) → slotOf after (c .rdst) ≡ v .fence
   -- else no fence is reported, and every slot stays
   pub no-fence : (Signals c (v .outcome) → ⊥) → v .fence ≡ 0
   pub no-signal : (Signals c (v .outcome) → ⊥) → (n : ℕ) → slotOf after n ≡ slotOf d n
+  -- whether one was emitted is told apart
+  pub emitted : (v .emitted ≡ true) ↔ Signals c (v .outcome)
   -- the other slots stay
   pub other-slots : (n : ℕ) → (n ≡ c .rdst → ⊥) → slotOf after n ≡ slotOf d n
   -- words read is len for a READ_MEM with outcome 0, else 0
@@ -56,8 +59,9 @@ pub record Reported (d : Device) (q : ℕ) (c : Command) (v : Values) (after : D
   pub other-rings : (n : ℕ) → (n ≡ q → ⊥) → ringOf after n ≡ ringOf d n
   -- the marker is the ring after the served one
   pub marker : after .marker ≡ nextRing q
-  -- the limit stays
+  -- the limit and the edition stay
   pub limit : after .limit ≡ d .limit
+  pub edition : after .edition ≡ d .edition
   -- the command is counted
   pub counts : CountsOne d q (v .outcome) after
 

@@ -8,6 +8,7 @@ use lib.ListN.{length}
 use Rattle.pack.specs.Kernels.{soundPack}
 use Rattle.state.specs.declared.device.Window.{Window}
 use Rattle.state.specs.declared.device.Device.{Device}
+use Rattle.state.specs.declared.edition.Start.{Start}
 use Rattle.state.specs.Counts.{total, balanced}
 use Rattle.state.specs.Device.{Shaped, ringOf}
 use Rattle.device.specs.Answer.{makingNumber}
@@ -64,18 +65,18 @@ unfoldable pub SoundRefusals : Type 0
 SoundRefusals =
     (d : Device) (call : Call) → stateSound d ≡ true → windowsFit d (length (call .memory)) ≡ true → RefusedForLent d call
 
--- making a device over a memory of `memory` bytes, with a limit named
-pub record MakesSound (memory : ℕ) (w0 w1 w2 w3 : Window) (limit : ℕ) : Type 0 where
+-- making a device over a memory of `memory` bytes, with a limit and a start named
+pub record MakesSound (memory : ℕ) (w0 w1 w2 w3 : Window) (limit : ℕ) (chosen : Start) : Type 0 where
   -- made or refused, its state is sound
-  pub state : stateSound (freshWith memory w0 w1 w2 w3 limit .device) ≡ true
+  pub state : stateSound (freshWith memory w0 w1 w2 w3 limit chosen .device) ≡ true
   -- made, its windows fit the memory
-  pub windows : makingNumber (freshWith memory w0 w1 w2 w3 limit .answer) ≡ 0 → windowsFit (freshWith memory w0 w1 w2 w3 limit .device) memory ≡ true
+  pub windows : makingNumber (freshWith memory w0 w1 w2 w3 limit chosen .answer) ≡ 0 → windowsFit (freshWith memory w0 w1 w2 w3 limit chosen .device) memory ≡ true
   -- refused, they are empty and fit every memory that is not too long
-  pub empty : 101 ≤ makingNumber (freshWith memory w0 w1 w2 w3 limit .answer) → (n : ℕ) → n ≤ 1048576 → windowsFit (freshWith memory w0 w1 w2 w3 limit .device) n ≡ true
+  pub empty : 101 ≤ makingNumber (freshWith memory w0 w1 w2 w3 limit chosen .answer) → (n : ℕ) → n ≤ 1048576 → windowsFit (freshWith memory w0 w1 w2 w3 limit chosen .device) n ≡ true
 
--- with any limit named; where none is named it is 16,384
+-- with any limit and start named; where neither is, the limit is 16,384 and the edition 1
 unfoldable pub FreshMakesSound : Type 0
-FreshMakesSound = (memory : ℕ) (w0 w1 w2 w3 : Window) (limit : ℕ) → MakesSound memory w0 w1 w2 w3 limit
+FreshMakesSound = (memory : ℕ) (w0 w1 w2 w3 : Window) (limit : ℕ) (chosen : Start) → MakesSound memory w0 w1 w2 w3 limit chosen
 
 -- a call over a device that was handed back: it is not refused as 102, and on `memory` bytes only for what it lends
 pub record HandedBack (memory : ℕ) (d : Device) (call : Call) : Type 0 where
@@ -94,5 +95,5 @@ CallsStaySound = (d : Device) → Shaped d → StaySoundFrom d
 -- and from a made device, with the memory's length that it was made for
 unfoldable pub FreshStaysSound : Type 0
 FreshStaysSound =
-    (memory : ℕ) (w0 w1 w2 w3 : Window) (limit : ℕ) (calls : List Call) → makingNumber (freshWith memory w0 w1 w2 w3 limit .answer) ≡ 0
-    → EachCall (HandedBack memory) (freshWith memory w0 w1 w2 w3 limit .device) calls
+    (memory : ℕ) (w0 w1 w2 w3 : Window) (limit : ℕ) (chosen : Start) (calls : List Call) → makingNumber (freshWith memory w0 w1 w2 w3 limit chosen .answer) ≡ 0
+    → EachCall (HandedBack memory) (freshWith memory w0 w1 w2 w3 limit chosen .device) calls

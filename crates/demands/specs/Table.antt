@@ -1,7 +1,7 @@
 -- The examples that were worked by hand, as whole calls and as steps of a thread.
 use Prim.Native.Nat.{ℕ, _+_, _*_, _^_, _≤_, _<_}
 use mathlib.Core.Path.{_≡_}
-use mathlib.Core.Bool.{false}
+use mathlib.Core.Bool.{Bool, true, false}
 use mathlib.Core.List.{List, [], _∷_, _++_}
 use lib.ListN.{length, replicate}
 use Rattle.words.specs.Bytes.{byteOf}
@@ -19,8 +19,10 @@ use Rattle.command.specs.declared.frame.Frame.the-variants.{Held}
 use Rattle.command.specs.Outcome.{outcomeNumber}
 use Rattle.work.specs.Work.{ranOutcome}
 use Rattle.state.specs.declared.device.Device.{Device}
+use Rattle.state.specs.declared.edition.Edition.the-variants.{One}
+use Rattle.state.specs.declared.edition.Start.the-variants.{Edition2}
 use Rattle.state.specs.Counts.{noCounts}
-use Rattle.state.specs.Device.{emptyWindow, freshRing, deviceOf, defaultLimit}
+use Rattle.state.specs.Device.{emptyWindow, freshRing, deviceOf, defaultLimit, freshDevice}
 use Rattle.device.specs.Answer.{answerNumber, noValues, valuesOf}
 use Rattle.device.specs.Turn.{Call, callOf, TurnEnd, turnOf}
 use Rattle.demands.specs.Calls.{ServesRing}
@@ -32,13 +34,13 @@ wordBytes w = byteOf 0 w ∷ byteOf 1 w ∷ byteOf 2 w ∷ byteOf 3 w ∷ []
 abbrev pub header : ℕ → ℕ → ℕ → ℕ → ℕ → ℕ → ℕ → List ℕ
 header opcode flags rdst len arg0 arg1 arg2 = opcode ∷ flags ∷ rdst ∷ len ∷ (wordBytes arg0 ++ (wordBytes arg1 ++ wordBytes arg2))
 
--- a device under this limit whose ring 0 has a window of n bytes and a frame of stride 16, its marker at m
+-- a device of edition 1 under this limit whose ring 0 has a window of n bytes and a frame of stride 16, its marker at m
 abbrev pub framedUnder : ℕ → ℕ → ℕ → Device
 framedUnder limit n m =
     deviceOf
     (record { window = record { start = 0; length = n }; cursor = 0; frame = Held 0 16 0 }
     ∷ freshRing emptyWindow ∷ freshRing emptyWindow ∷ freshRing emptyWindow ∷ [])
-    (replicate 64 0) m limit noCounts
+    (replicate 64 0) m limit noCounts One
 
 -- under the limit where none is named
 abbrev pub framed : ℕ → ℕ → Device
@@ -57,11 +59,15 @@ unfoldable pub colored : List ℕ → ℕ → List ℕ
 colored [] n = replicate n 0
 colored (a ∷ places) n = withWord (colored places n) a 0xAABBCCDD
 
--- a turn that serves ring 0: this outcome, no fence, no words read and no IRQ
-abbrev pub OutcomeOn0 : ℕ → TurnEnd → Type 0
-OutcomeOn0 outcome end =
+-- a turn that serves this ring: this outcome, this fence, emitted or not, no words read and no IRQ
+abbrev pub ServedAs : ℕ → ℕ → ℕ → Bool → TurnEnd → Type 0
+ServedAs ring outcome fence emitted end =
     (answerNumber (end .turned .answer) ≡ 0)
-    × (valuesOf (end .turned .answer) ≡ record { ring = 0; outcome = outcome; fence = 0; words = 0; irq = false })
+    × (valuesOf (end .turned .answer) ≡ record { ring = ring; outcome = outcome; fence = fence; words = 0; irq = false; emitted = emitted })
+
+-- of ring 0, with no fence
+abbrev pub OutcomeOn0 : ℕ → TurnEnd → Type 0
+OutcomeOn0 outcome end = ServedAs 0 outcome 0 false end
 
 -- a dispatch has this outcome, and leaves the window as it was
 pub record EndsWith (number : ℕ) (window : List ℕ) (d : Dispatched) : Type 0 where
@@ -142,3 +148,15 @@ pub record LeastLimit : Type 0 where
   pub two : OutcomeOn0 12 (turnOf (framedUnder 2 64 0) (oneThread 0xFFF00297))
   -- one of 0000700F (WFI) alone ends by the limit's step
   pub wfi : OutcomeOn0 0 (turnOf (framedUnder 1 64 0) (oneThread 0x0000700F))
+
+-- edition 2 from 4,294,967,294: ring 0 emits three times to slot 5, by 4,294,967,295 and 0 to 1; ring 1 waits for 1 and is
+-- served then, not before; then no ring is ready
+unfoldable pub RoundTheWrap : Type 0
+RoundTheWrap =
+    let call = lent 0 (emitTo 5 ++ emitTo 5 ++ emitTo 5) (waitFor 5) [] [] in
+    let t1 = turnOf (freshDevice emptyWindow emptyWindow emptyWindow emptyWindow defaultLimit (Edition2 4294967294)) call in
+    let t2 = turnOf (t1 .turned .device) call in
+    let t3 = turnOf (t2 .turned .device) call in
+    let t4 = turnOf (t3 .turned .device) call in
+    ServedAs 0 0 4294967295 true t1 × ServedAs 0 0 0 true t2 × ServedAs 0 0 1 true t3 × ServedAs 1 0 0 false t4
+    × IdleTurn (turnOf (t4 .turned .device) call)

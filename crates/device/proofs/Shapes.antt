@@ -1,4 +1,4 @@
--- A turn leaves a device's shape and its limit, and a fresh device has its shape; an emit and a count leave numbers that fit.
+-- A turn leaves a device's shape, its limit and its edition, and a fresh device has its shape; an emit and a count leave numbers that fit.
 -- Assumes nothing.
 use mathlib.Core.Path.{_≡_, refl, ap, _∙_}
 use mathlib.Core.Bool.{Bool, true, false}
@@ -11,6 +11,8 @@ use Rattle.command.specs.Report.{emits}
 use Rattle.work.specs.declared.work.Performed.{Performed}
 use Rattle.state.specs.declared.device.Device.{Device}
 use Rattle.state.specs.declared.device.Window.{Window}
+use Rattle.state.specs.declared.edition.Start.{Start}
+use Rattle.state.specs.declared.edition.Start.the-variants.{Edition1}
 use Rattle.device.specs.declared.fresh.Fresh.{Fresh}
 use Rattle.state.proofs.PlusOne.{plus-one-fits, plus-one-long}
 use Rattle.state.specs.Counts.{counted}
@@ -42,6 +44,11 @@ pub after-limit : (d : Device) (q : ℕ) (c : Command) (p : Performed) → devic
 unfolding deviceAfter withCounts withMarker withRing withSlots
 after-limit d q c p = ap (λ after. after .limit) (emit-alone _ _ (c .rdst))
 
+-- nor the edition
+pub after-edition : (d : Device) (q : ℕ) (c : Command) (p : Performed) → deviceAfter d q c p .edition ≡ d .edition
+unfolding deviceAfter withCounts withMarker withRing withSlots
+after-edition d q c p = ap (λ after. after .edition) (emit-alone _ _ (c .rdst))
+
 -- and each one is counted
 pub after-counts : (d : Device) (q : ℕ) (c : Command) (p : Performed)
     → deviceAfter d q c p .counts ≡ counted (d .counts) q (outcomeNumber (p .outcome))
@@ -70,22 +77,24 @@ unfolding unchanged servedOf finished
 turn-shaped d call s =
     turn-cases d call (λ end. Shaped (end .turned .device)) (λ why v. s) (λ sound p. s) (λ q sound p. after-shaped d q _ _ s)
 
-pub fresh-shaped : (w0 w1 w2 w3 : Window) (limit : ℕ) → Shaped (freshDevice w0 w1 w2 w3 limit)
+pub fresh-shaped : (w0 w1 w2 w3 : Window) (limit : ℕ) (start : Start) → Shaped (freshDevice w0 w1 w2 w3 limit start)
 unfolding freshDevice
-fresh-shaped w0 w1 w2 w3 limit = record { rings = refl; slots = refl; commands = refl; outcomes = refl }
+fresh-shaped w0 w1 w2 w3 limit start = record { rings = refl; slots = refl; commands = refl; outcomes = refl }
 
 empty-shaped : Shaped emptyDevice
 unfolding emptyDevice
-empty-shaped = fresh-shaped emptyWindow emptyWindow emptyWindow emptyWindow defaultLimit
+empty-shaped = fresh-shaped emptyWindow emptyWindow emptyWindow emptyWindow defaultLimit Edition1
 
 -- what holds of the empty device, and of a fresh one if it is made, holds of what a making gives
-pub made-each : (P : Device → Type 0) (memory : ℕ) (w0 w1 w2 w3 : Window) (limit : ℕ) → P emptyDevice
-    → (limitFits limit ≡ true → P (freshDevice w0 w1 w2 w3 limit)) → P (freshWith memory w0 w1 w2 w3 limit .device)
+pub made-each : (P : Device → Type 0) (memory : ℕ) (w0 w1 w2 w3 : Window) (limit : ℕ) (start : Start) → P emptyDevice
+    → (limitFits limit ≡ true → P (freshDevice w0 w1 w2 w3 limit start)) → P (freshWith memory w0 w1 w2 w3 limit start .device)
 unfolding freshWith notMade
-made-each P memory w0 w1 w2 w3 limit empty fresh =
+made-each P memory w0 w1 w2 w3 limit start empty fresh =
     let Has : Fresh → Type 0 = λ made. P (made .device) in
     cond-has Has (memoryFits memory w0 w1 w2 w3) (λ fits. cond-has Has (limitFits limit) fresh (λ unfit. empty))
     (λ unfit. empty)
 
-pub made-shaped : (memory : ℕ) (w0 w1 w2 w3 : Window) (limit : ℕ) → Shaped (freshWith memory w0 w1 w2 w3 limit .device)
-made-shaped memory w0 w1 w2 w3 limit = made-each Shaped memory w0 w1 w2 w3 limit empty-shaped (λ limited. fresh-shaped w0 w1 w2 w3 limit)
+pub made-shaped : (memory : ℕ) (w0 w1 w2 w3 : Window) (limit : ℕ) (start : Start)
+    → Shaped (freshWith memory w0 w1 w2 w3 limit start .device)
+made-shaped memory w0 w1 w2 w3 limit start =
+    made-each Shaped memory w0 w1 w2 w3 limit start empty-shaped (λ limited. fresh-shaped w0 w1 w2 w3 limit start)

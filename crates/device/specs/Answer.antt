@@ -15,21 +15,29 @@ answerNumber (Refused why) = refusalNumber why
 answerNumber Idle = 1
 answerNumber (Served r) = 0
 
--- what is reported of a turn: ring, outcome, fence, words read, IRQ
+-- what is reported of a turn: ring, outcome, fence, words read, IRQ, and apart from the fence's number whether one was emitted
 pub record Values : Type 0 where
   pub ring : ℕ
   pub outcome : ℕ
   pub fence : ℕ
   pub words : ℕ
   pub irq : Bool
+  pub emitted : Bool
 
--- 0 for ring, outcome, fence and words read, and no IRQ
+-- 0 for ring, outcome, fence and words read, no IRQ, and no fence emitted
 abbrev pub noValues : Values
-noValues = record { ring = 0; outcome = 0; fence = 0; words = 0; irq = false }
+noValues = record { ring = 0; outcome = 0; fence = 0; words = 0; irq = false; emitted = false }
 
 -- those of a report
 abbrev pub reportValues : Report → Values
-reportValues r = record { ring = r .ring; outcome = outcomeNumber (r .outcome); fence = r .fence; words = r .words; irq = r .irq }
+reportValues r = record {
+  ring = r .ring;
+  outcome = outcomeNumber (r .outcome);
+  fence = r .fence;
+  words = r .words;
+  irq = r .irq;
+  emitted = r .emitted;
+}
 
 -- an idle or refused turn reports no values
 unfoldable pub valuesOf : Answer → Values

@@ -67,7 +67,7 @@ pub record Shows (r : Turned) (m p : List ℕ) (end : TurnEnd) : Type 0 where
 unfoldable pub unchanged : Device → Call → Answer → TurnEnd
 unchanged d call answer = record { turned = record { device = d; answer = answer }; memory = call .memory; pipe = call .pipe }
 
--- the reported fence: the slot's new number, or 0
+-- the reported fence: the slot's new number if one is emitted, else 0
 unfoldable pub fenceOf : Bool → ℕ → ℕ
 fenceOf emitting slot = cond emitting (emitted slot) 0
 
@@ -96,6 +96,7 @@ reportOf d q c p = record {
   fence = fenceOf (emits c (p .outcome)) (slotOf d (c .rdst));
   words = wordsRead c (p .outcome);
   irq = interrupts c (p .outcome);
+  emitted = emits c (p .outcome);
 }
 
 -- the device and the report once ring q's command has had its outcome
@@ -108,7 +109,7 @@ servedOf d q ring memory pack pipe =
     let r = ringOf d q in
     let c = commandAt ring (r .cursor) in
     let window = windowOf (r .window .start) (r .window .length) memory in
-    let p = performedOf c (isFull (slotOf d (c .rdst))) ring window (r .frame) pack pipe (d .limit) in
+    let p = performedOf c (isFull (d .edition) (slotOf d (c .rdst))) ring window (r .frame) pack pipe (d .limit) in
     record {
       turned = finished d q c (p .performed);
       memory = putBack (r .window .start) (p .window) memory;

@@ -5,6 +5,7 @@ ghost use Rattle.device.specs.Answer.{makingNumber};
 use state::device::DEFAULT_LIMIT;
 use state::device::Device;
 use state::device::Window;
+use state::edition::Start;
 use state::refusal::Refusal;
 use state::refusal::limit_fits;
 use state::refusal::memory_fits;
@@ -39,9 +40,17 @@ fn not_made(why: Refusal) -> Fresh
     }
 }
 
-// With a limit named. `memory` is the memory's length.
-pub fn make_with(memory: usize, w0: Window, w1: Window, w2: Window, w3: Window, limit: u32) -> Fresh
-    ensures { λ r. ⌜ r ≡ freshWith memory w0 w1 w2 w3 limit ⌝ }
+// With a limit and a start named. `memory` is the memory's length.
+pub fn make_with(
+    memory: usize,
+    w0: Window,
+    w1: Window,
+    w2: Window,
+    w3: Window,
+    limit: u32,
+    start: Start,
+) -> Fresh
+    ensures { λ r. ⌜ r ≡ freshWith memory w0 w1 w2 w3 limit start ⌝ }
 {
     let memory_fits = memory_fits(memory, w0, w1, w2, w3);
     let limit_fits = limit_fits(limit);
@@ -52,14 +61,14 @@ pub fn make_with(memory: usize, w0: Window, w1: Window, w2: Window, w3: Window, 
         return not_made(Refusal::State);
     }
     Fresh {
-        device: Device::fresh(w0, w1, w2, w3, limit),
+        device: Device::fresh(w0, w1, w2, w3, limit, start),
         answer: Making::Made,
     }
 }
 
-// With none named.
+// With neither named: edition 1.
 pub fn make(memory: usize, w0: Window, w1: Window, w2: Window, w3: Window) -> Fresh
     ensures { λ r. ⌜ r ≡ freshOf memory w0 w1 w2 w3 ⌝ }
 {
-    make_with(memory, w0, w1, w2, w3, DEFAULT_LIMIT)
+    make_with(memory, w0, w1, w2, w3, DEFAULT_LIMIT, Start::Edition1)
 }

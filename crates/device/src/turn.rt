@@ -35,6 +35,8 @@ pub struct Report {
     // How many words were read to the pipe.
     pub words: u32,
     pub irq: bool,
+    // Whether a fence was emitted: its number may be 0.
+    pub emitted: bool,
 }
 
 pub enum Answer {
@@ -103,6 +105,7 @@ fn report_of(d: Device, q: u32, command: Command, done: Performed) -> Report
         fence: fence_of(emitting, slot),
         words: words_read(command, outcome),
         irq: raises_irq(command, outcome),
+        emitted: emitting,
     }
 }
 
@@ -123,7 +126,8 @@ fn serve(d: Device, q: u32, mem: &mut [u8], ring: &[u8], pack: &[u8], pipe: &mut
 {
     let at = d.ring(q);
     let command = command_at(ring, at.cursor as usize);
-    let full = is_full(d.slot(command.rdst));
+    let edition = d.edition;
+    let full = is_full(edition, d.slot(command.rdst));
     let limit = d.limit;
     let window = at.window;
     let frame = at.frame;

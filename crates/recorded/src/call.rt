@@ -2,6 +2,7 @@
 ghost use mathlib.Core.Path.{_≡_};
 ghost use Rattle.recorded.specs.Call.{callSeen};
 use crate::fresh;
+use crate::fresh::Named;
 use crate::turn;
 use memory::peek::peek_word;
 
@@ -17,13 +18,16 @@ pub fn compare(body: &[u8]) -> Seen
 {
     let kind = peek_word(body, 0);
     if kind == 0 {
-        return fresh::compare(body, false);
+        return fresh::compare(body, Named::Nothing);
     }
     if kind == 1 {
         return turn::compare(body);
     }
     if kind == 2 {
-        return fresh::compare(body, true);
+        return fresh::compare(body, Named::Limit);
+    }
+    if kind == 3 {
+        return fresh::compare(body, Named::LimitAndFirst);
     }
     Seen::Damaged
 }

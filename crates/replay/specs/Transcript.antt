@@ -71,7 +71,7 @@ firstCall input job =
 abbrev pub asWindow : Pair → Window
 asWindow pair = record { start = pair .start; length = pair .length }
 
--- the making of a fresh device with the job's windows, no limit named
+-- the making of a fresh device with the job's windows, no limit and no start named: so of edition 1
 unfoldable pub freshFor : List ℕ → Job → Fresh
 freshFor input job =
     freshOf (length (bytesOf input (job .memory)))

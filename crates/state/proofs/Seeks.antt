@@ -17,7 +17,7 @@ use Rattle.state.specs.Ready.{readyWhere, readyAt, nextRing, seek}
 
 -- what was found of a ring and its bytes is what the device's readiness says
 pub told : (d : Device) (q : ℕ) (b : List ℕ) {ring : RingState} {bytes : List ℕ} {r answer : Bool} → ring ≡ ringOf d q → bytes ≡ b
-    → r ≡ readyWhere ring (d .slots) bytes → r ≡ answer → readyAt d q b ≡ answer
+    → r ≡ readyWhere (d .edition) ring (d .slots) bytes → r ≡ answer → readyAt d q b ≡ answer
 unfolding readyAt
 told d q b same-ring same-bytes said is = rw (← same-ring, ← same-bytes) (sym said ∙ is)
 

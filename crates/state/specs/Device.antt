@@ -5,10 +5,14 @@ use mathlib.Core.List.{List, [], _∷_}
 use lib.ListN.{length, getD, set, replicate}
 use Rattle.command.specs.declared.frame.Frame.the-variants.{Unset}
 use Rattle.state.specs.declared.counts.Counts.{Counts}
+use Rattle.state.specs.declared.edition.Edition.{Edition}
+use Rattle.state.specs.declared.edition.Start.{Start}
+use Rattle.state.specs.declared.edition.Start.the-variants.{Edition1}
 use Rattle.state.specs.declared.device.Window.{Window}
 use Rattle.state.specs.declared.device.Ring.{Ring}
 use Rattle.state.specs.declared.device.Device.{Device}
 use Rattle.state.specs.Counts.{noCounts}
+use Rattle.state.specs.Edition.{editionOf, firstOf}
 
 -- an empty window at 0
 abbrev pub emptyWindow : Window
@@ -19,8 +23,9 @@ abbrev pub freshRing : Window → Ring
 freshRing window = record { window = window; cursor = 0; frame = Unset }
 
 -- a device of these parts
-abbrev pub deviceOf : List Ring → List ℕ → ℕ → ℕ → Counts → Device
-deviceOf rings slots marker limit counts = record { rings = rings; slots = slots; marker = marker; limit = limit; counts = counts }
+abbrev pub deviceOf : List Ring → List ℕ → ℕ → ℕ → Counts → Edition → Device
+deviceOf rings slots marker limit counts edition =
+    record { rings = rings; slots = slots; marker = marker; limit = limit; counts = counts; edition = edition }
 
 -- a device has four rings, 64 slots, a count for each ring and one for each of the fifteen outcomes
 pub record Shaped (d : Device) : Type 0 where
@@ -33,14 +38,15 @@ pub record Shaped (d : Device) : Type 0 where
 abbrev pub defaultLimit : ℕ
 defaultLimit = 16384
 
--- a fresh device with this limit: all 64 slots 0, the marker 0, nothing counted
-unfoldable pub freshDevice : Window → Window → Window → Window → ℕ → Device
-freshDevice w0 w1 w2 w3 limit =
-    deviceOf (freshRing w0 ∷ freshRing w1 ∷ freshRing w2 ∷ freshRing w3 ∷ []) (replicate 64 0) 0 limit noCounts
+-- a fresh device with this limit and start: all 64 slots the starting number, the marker 0, nothing counted
+unfoldable pub freshDevice : Window → Window → Window → Window → ℕ → Start → Device
+freshDevice w0 w1 w2 w3 limit start =
+    deviceOf (freshRing w0 ∷ freshRing w1 ∷ freshRing w2 ∷ freshRing w3 ∷ []) (replicate 64 (firstOf start)) 0 limit noCounts
+    (editionOf start)
 
--- a fresh device of four empty windows at 0, no limit named
+-- a fresh device of four empty windows at 0, no limit named, edition 1
 unfoldable pub emptyDevice : Device
-emptyDevice = freshDevice emptyWindow emptyWindow emptyWindow emptyWindow defaultLimit
+emptyDevice = freshDevice emptyWindow emptyWindow emptyWindow emptyWindow defaultLimit Edition1
 
 -- ring q
 unfoldable pub ringOf : Device → ℕ → Ring
@@ -78,13 +84,13 @@ pub record ByType (d : Device) : Type 0 where
 
 -- the device with one ring, the slots, the marker or the counts changed
 unfoldable pub withRing : Device → ℕ → Ring → Device
-withRing d q ring = deviceOf (set (d .rings) q ring) (d .slots) (d .marker) (d .limit) (d .counts)
+withRing d q ring = deviceOf (set (d .rings) q ring) (d .slots) (d .marker) (d .limit) (d .counts) (d .edition)
 
 unfoldable pub withSlots : Device → List ℕ → Device
-withSlots d slots = deviceOf (d .rings) slots (d .marker) (d .limit) (d .counts)
+withSlots d slots = deviceOf (d .rings) slots (d .marker) (d .limit) (d .counts) (d .edition)
 
 unfoldable pub withMarker : Device → ℕ → Device
-withMarker d marker = deviceOf (d .rings) (d .slots) marker (d .limit) (d .counts)
+withMarker d marker = deviceOf (d .rings) (d .slots) marker (d .limit) (d .counts) (d .edition)
 
 unfoldable pub withCounts : Device → Counts → Device
-withCounts d counts = deviceOf (d .rings) (d .slots) (d .marker) (d .limit) counts
+withCounts d counts = deviceOf (d .rings) (d .slots) (d .marker) (d .limit) counts (d .edition)

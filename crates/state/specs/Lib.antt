@@ -1,3 +1,4 @@
+pub mod Edition
 pub mod PlusOne
 pub mod Slots
 pub mod Counts

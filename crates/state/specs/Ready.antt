@@ -11,24 +11,25 @@ use Rattle.command.specs.Header.{commandAt, isWhole}
 use Rattle.command.specs.Outcome.{isDone}
 use Rattle.state.specs.declared.device.Device.{Device}
 use Rattle.state.specs.declared.device.Ring.{Ring as RingState}
+use Rattle.state.specs.declared.edition.Edition.{Edition}
 use Rattle.state.specs.declared.ready.Picked.{Picked}
 use Rattle.state.specs.declared.ready.Picked.the-variants.{Ring, Nobody}
 use Rattle.state.specs.Device.{ringOf}
 use Rattle.state.specs.Slots.{isMet}
 
--- a whole command is ready if it has a header fault, or no wait bit, or its slot's number meets the target
-unfoldable pub readyWith : Command → ℕ → Bool
-readyWith c slot = not (isDone (headerFault c)) || not (waitBit (c .flags)) || isMet slot (c .target)
+-- a whole command is ready if it has a header fault, or no wait bit, or its slot's number meets the target by the edition's rule
+unfoldable pub readyWith : Edition → Command → ℕ → Bool
+readyWith edition c slot = not (isDone (headerFault c)) || not (waitBit (c .flags)) || isMet edition slot (c .target)
 
 -- a ring is ready among these slots: its head command is whole and ready
-unfoldable pub readyWhere : RingState → List ℕ → List ℕ → Bool
-readyWhere ring slots bytes =
+unfoldable pub readyWhere : Edition → RingState → List ℕ → List ℕ → Bool
+readyWhere edition ring slots bytes =
     let c = commandAt bytes (ring .cursor) in
-    isWhole bytes (ring .cursor) && readyWith c (getD slots (c .rdst) 0)
+    isWhole bytes (ring .cursor) && readyWith edition c (getD slots (c .rdst) 0)
 
 -- ring q of the device, whose bytes are these, is ready
 unfoldable pub readyAt : Device → ℕ → List ℕ → Bool
-readyAt d q bytes = readyWhere (ringOf d q) (d .slots) bytes
+readyAt d q bytes = readyWhere (d .edition) (ringOf d q) (d .slots) bytes
 
 -- after 3 comes 0
 unfoldable pub nextRing : ℕ → ℕ

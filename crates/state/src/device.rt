@@ -3,6 +3,10 @@ ghost use mathlib.Core.Path.{_≡_};
 ghost use Prim.Native.Nat.{_<_};
 ghost use Rattle.state.specs.Device.{deviceOf, ByType, freshRing, freshDevice, emptyDevice, ringOf, slotOf, withRing, withSlots, withMarker, withCounts};
 use crate::counts::Counts;
+use crate::edition::Edition;
+use crate::edition::Start;
+use crate::edition::edition_of;
+use crate::edition::first_of;
 use command::frame::Frame;
 
 // The limit where none is named.
@@ -27,6 +31,7 @@ pub struct Device {
     // The steps that a thread of a kernel may take.
     pub limit: u32,
     pub counts: Counts,
+    pub edition: Edition,
 }
 
 fn fresh_ring(window: Window) -> Ring
@@ -41,8 +46,15 @@ fn fresh_ring(window: Window) -> Ring
 
 impl Device {
     // The one place where a device is made; elsewhere a copy is changed field by field.
-    pub fn of(rings: [Ring; 4], slots: [u32; 64], marker: u32, limit: u32, counts: Counts) -> Self
-        ensures { λ r. ⌜ r ≡ deviceOf rings slots marker limit counts ⌝ }
+    pub fn of(
+        rings: [Ring; 4],
+        slots: [u32; 64],
+        marker: u32,
+        limit: u32,
+        counts: Counts,
+        edition: Edition,
+    ) -> Self
+        ensures { λ r. ⌜ r ≡ deviceOf rings slots marker limit counts edition ⌝ }
     {
         Device {
             rings,
@@ -50,6 +62,7 @@ impl Device {
             marker,
             limit,
             counts,
+            edition,
         }
     }
 
@@ -61,8 +74,8 @@ impl Device {
         self
     }
 
-    pub fn fresh(w0: Window, w1: Window, w2: Window, w3: Window, limit: u32) -> Self
-        ensures { λ r. ⌜ r ≡ freshDevice w0 w1 w2 w3 limit ⌝ }
+    pub fn fresh(w0: Window, w1: Window, w2: Window, w3: Window, limit: u32, start: Start) -> Self
+        ensures { λ r. ⌜ r ≡ freshDevice w0 w1 w2 w3 limit start ⌝ }
     {
         let rings = [
             fresh_ring(w0),
@@ -70,7 +83,8 @@ impl Device {
             fresh_ring(w2),
             fresh_ring(w3),
         ];
-        Device::of(rings, [0; 64], 0, limit, Counts::none())
+        let slots = [first_of(start); 64];
+        Device::of(rings, slots, 0, limit, Counts::none(), edition_of(start))
     }
 
     // What a refused making hands out.
@@ -81,7 +95,14 @@ impl Device {
             start: 0,
             length: 0,
         };
-        Device::fresh(window, window, window, window, DEFAULT_LIMIT)
+        Device::fresh(
+            window,
+            window,
+            window,
+            window,
+            DEFAULT_LIMIT,
+            Start::Edition1,
+        )
     }
 
     pub fn ring(self, q: u32) -> Ring

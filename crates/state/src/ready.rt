@@ -5,6 +5,7 @@ ghost use lib.ListN.{getD};
 ghost use Rattle.state.specs.Ready.{readyWith, readyWhere, nextRing, bytesOfRing, pickOf, Steady};
 use crate::device::Device;
 use crate::device::Ring;
+use crate::edition::Edition;
 use crate::slots::is_met;
 use command::faults::header_fault;
 use command::flags;
@@ -20,12 +21,15 @@ pub enum Picked {
     Nobody,
 }
 
-fn ready_with(command: Command, slot: u32) -> bool
-    ensures { λ r. ⌜ r ≡ readyWith command slot ⌝ }
+fn ready_with(edition: Edition, command: Command, slot: u32) -> bool
+    ensures { λ r. ⌜ r ≡ readyWith edition command slot ⌝ }
 {
     let faulty = !is_done(header_fault(command));
     let waits = flags::wait(command.flags);
-    one_of(one_of(faulty, !waits), is_met(slot, command.target))
+    one_of(
+        one_of(faulty, !waits),
+        is_met(edition, slot, command.target),
+    )
 }
 
 fn slot_in(slots: &[u32], n: u8) -> u32
@@ -37,14 +41,17 @@ fn slot_in(slots: &[u32], n: u8) -> u32
 
 // Whether a ring has a ready head command. The slots are lent, and the device is not handed over: four copies of it are a
 // large part of an empty turn.
-fn is_ready(ring: Ring, slots: &[u32], bytes: &[u8]) -> bool
+fn is_ready(edition: Edition, ring: Ring, slots: &[u32], bytes: &[u8]) -> bool
     requires { ⌜ ring .cursor ≤ 65536 ⌝ }
-    ensures { λ r. ⌜ r ≡ readyWhere ring (now (slots .entry)) (now (bytes .entry)) ⌝ }
+    ensures { λ r. ⌜ r ≡ readyWhere edition ring (now (slots .entry)) (now (bytes .entry)) ⌝ }
 {
     let cursor = ring.cursor as usize;
     let command = command_at(bytes, cursor);
     let slot = slot_in(slots, command.rdst);
-    both(is_whole(bytes, cursor, command), ready_with(command, slot))
+    both(
+        is_whole(bytes, cursor, command),
+        ready_with(edition, command, slot),
+    )
 }
 
 pub fn next_ring(q: u32) -> u32
@@ -77,7 +84,7 @@ pub fn pick<'a>(d: Device, r0: &'a [u8], r1: &'a [u8], r2: &'a [u8], r3: &'a [u8
         }
         let at = q as usize;
         let ring = d.rings[at];
-        if is_ready(ring, &d.slots, bytes_of_ring(q, r0, r1, r2, r3)) {
+        if is_ready(d.edition, ring, &d.slots, bytes_of_ring(q, r0, r1, r2, r3)) {
             break Picked::Ring(q);
         }
         q = next_ring(q);

@@ -28,6 +28,12 @@ word-in-requires c κs = search needs
 word-in-requires-2 : tie.Need-word-in-requires-2
 word-in-requires-2 c κs = search needs
 
+word-in-requires-3 : tie.Need-word-in-requires-3
+word-in-requires-3 c κs = search needs
+
+edition-by-requires : tie.Need-edition-by-requires
+edition-by-requires c κs = search needs
+
 counts-in-requires : tie.Need-counts-in-requires
 counts-in-requires c κs = search needs
 
@@ -37,8 +43,21 @@ of-requires c κs = search needs
 returns : tie.Need-returns
 unfolding decode
 returns c =
-    let rings = c .before .before .before .before .before .before .before in
-    rw (c .of .ensures, rings .before .before .before .ring-at .ensures, rings .before .before .ring-at2 .ensures, rings .before .ring-at3 .ensures, rings .ring-at4 .ensures, c .before .before .before .before .before .take-words .ensures, c .before .before .before .word-in .ensures, c .before .before .word-in2 .ensures, c .before .counts-in .ensures)
+    let numbers = c .before .before .before in
+    let rings = numbers .before .before .before .before .before .before in
+    rw (
+      c .of .ensures,
+      rings .before .before .before .ring-at .ensures,
+      rings .before .before .ring-at2 .ensures,
+      rings .before .ring-at3 .ensures,
+      rings .ring-at4 .ensures,
+      numbers .before .before .before .before .take-words .ensures,
+      numbers .before .before .word-in .ensures,
+      numbers .before .word-in2 .ensures,
+      c .before .before .edition-by .ensures,
+      numbers .word-in3 .ensures,
+      c .before .counts-in .ensures,
+    )
 
 pub device-in-spec : {M : Type 1} → statement M
 device-in-spec =
@@ -52,6 +71,8 @@ device-in-spec =
     take-words-requires
     word-in-requires
     word-in-requires-2
+    word-in-requires-3
+    edition-by-requires
     counts-in-requires
     of-requires
     returns)

@@ -23,6 +23,9 @@ number-requires c κs = search needs
 bit-requires : tie.Need-bit-requires
 bit-requires c κs = search needs
 
+bit-requires-2 : tie.Need-bit-requires-2
+bit-requires-2 c κs = search needs
+
 returns : tie.Need-returns
 unfolding reportWords valuesOf
 returns c = rw (c .before .before .answer .given .1, c .refusal-number .ensures)
@@ -33,7 +36,7 @@ returns-2 c = rw (c .enum-told .given .1)
 
 returns-3 : tie.Need-returns-3
 unfolding reportWords valuesOf
-returns-3 c = rw (c .before .before .before .answer2 .given .1, c .bit .ensures, c .before .number .ensures)
+returns-3 c = rw (c .before .before .before .before .answer2 .given .1, c .bit2 .ensures, c .before .bit .ensures, c .before .before .number .ensures)
 
 pub report-words-spec : {M : Type 1} → statement M
 report-words-spec =
@@ -45,6 +48,7 @@ report-words-spec =
     enum-known-answer-2
     number-requires
     bit-requires
+    bit-requires-2
     returns
     returns-2
     returns-3)

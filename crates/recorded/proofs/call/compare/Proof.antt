@@ -29,9 +29,16 @@ returns-3 : tie.Need-returns-3
 unfolding callSeen
 returns-3 c = rw (← c .before .before .before .before .peek-word .ensures, ne-eqb _ _ (c .before .before .before .if1 .left), ne-eqb _ _ (c .before .before .if2 .left), eq-eqb _ _ (c .before .if3 .taken)) (c .compare3 .ensures)
 
+compare-requires-4 : tie.Need-compare-requires-4
+compare-requires-4 c κs = search needs
+
 returns-4 : tie.Need-returns-4
 unfolding callSeen
-returns-4 c = rw (← c .before .before .before .peek-word .ensures, ne-eqb _ _ (c .before .before .if1 .left), ne-eqb _ _ (c .before .if2 .left), ne-eqb _ _ (c .if3 .left))
+returns-4 c = rw (← c .before .before .before .before .before .peek-word .ensures, ne-eqb _ _ (c .before .before .before .before .if1 .left), ne-eqb _ _ (c .before .before .before .if2 .left), ne-eqb _ _ (c .before .before .if3 .left), eq-eqb _ _ (c .before .if4 .taken)) (c .compare4 .ensures)
+
+returns-5 : tie.Need-returns-5
+unfolding callSeen
+returns-5 c = rw (← c .before .before .before .before .peek-word .ensures, ne-eqb _ _ (c .before .before .before .if1 .left), ne-eqb _ _ (c .before .before .if2 .left), ne-eqb _ _ (c .before .if3 .left), ne-eqb _ _ (c .if4 .left))
 
 pub compare-spec : {M : Type 1} → statement M
 compare-spec =
@@ -44,4 +51,6 @@ compare-spec =
     returns-2
     compare-requires-3
     returns-3
-    returns-4)
+    compare-requires-4
+    returns-4
+    returns-5)

@@ -22,14 +22,11 @@ length-of-requires-4 c κs = search needs
 both-requires-2 : tie.Need-both-requires-2
 both-requires-2 c κs = search needs
 
-length-of-requires-5 : tie.Need-length-of-requires-5
-length-of-requires-5 c κs = search needs
-
-one-of-requires : tie.Need-one-of-requires
-one-of-requires c κs = search needs
-
 both-requires-3 : tie.Need-both-requires-3
 both-requires-3 c κs = search needs
+
+are-words-requires : tie.Need-are-words-requires
+are-words-requires c κs = search needs
 
 both-requires-4 : tie.Need-both-requires-4
 both-requires-4 c κs = search needs
@@ -37,9 +34,9 @@ both-requires-4 c κs = search needs
 returns : tie.Need-returns
 unfolding areWhole
 returns c =
-    let numbers = c .before .before .before .before in
+    let numbers = c .before .before .before in
     let call = numbers .before .before .before in
-    rw (c .both4 .ensures, c .before .both3 .ensures, c .before .before .one-of .ensures, c .before .before .before .length-of5 .ensures, numbers .both2 .ensures, numbers .before .length-of4 .ensures, numbers .before .before .length-of3 .ensures, call .both .ensures, call .before .length-of2 .ensures, call .before .before .length-of .ensures)
+    rw (c .both4 .ensures, c .before .are-words .ensures, c .before .before .both3 .ensures, numbers .both2 .ensures, numbers .before .length-of4 .ensures, numbers .before .before .length-of3 .ensures, call .both .ensures, call .before .length-of2 .ensures, call .before .before .length-of .ensures)
 
 pub are-whole-spec : {M : Type 1} → statement M
 are-whole-spec =
@@ -51,8 +48,7 @@ are-whole-spec =
     length-of-requires-3
     length-of-requires-4
     both-requires-2
-    length-of-requires-5
-    one-of-requires
     both-requires-3
+    are-words-requires
     both-requires-4
     returns)

@@ -31,7 +31,7 @@ enum-told c = search needs
 play-on-requires : tie.Need-play-on-requires
 play-on-requires c κs =
     let s = c .before .before .before .before .before .before .before .before .before .before .before .before in
-    (rw (c .before .before .before .before .make .ensures) (made-shaped _ _ _ _ _ _), s .pre .0, s .pre .1)
+    (rw (c .before .before .before .before .make .ensures) (made-shaped _ _ _ _ _ _ _), s .pre .0, s .pre .1)
 
 enum-known-answer : tie.Need-enum-known-answer
 enum-known-answer c = search needs

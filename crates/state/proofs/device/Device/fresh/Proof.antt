@@ -16,8 +16,14 @@ fresh-ring-requires-3 c κs = search needs
 fresh-ring-requires-4 : tie.Need-fresh-ring-requires-4
 fresh-ring-requires-4 c κs = search needs
 
+first-of-requires : tie.Need-first-of-requires
+first-of-requires c κs = search needs
+
 none-requires : tie.Need-none-requires
 none-requires c κs = search needs
+
+edition-of-requires : tie.Need-edition-of-requires
+edition-of-requires c κs = search needs
 
 of-requires : tie.Need-of-requires
 of-requires c κs = search needs
@@ -25,8 +31,9 @@ of-requires c κs = search needs
 returns : tie.Need-returns
 unfolding freshDevice
 returns c =
-    let rings = c .before .before in
-    rw (c .of .ensures, c .before .none .ensures, rings .fresh-ring4 .ensures, rings .before .fresh-ring3 .ensures, rings .before .before .fresh-ring2 .ensures, rings .before .before .before .fresh-ring .ensures)
+    let first = c .before .before .before in
+    let rings = first .before in
+    rw (c .of .ensures, c .before .edition-of .ensures, c .before .before .none .ensures, first .first-of .ensures, rings .fresh-ring4 .ensures, rings .before .fresh-ring3 .ensures, rings .before .before .fresh-ring2 .ensures, rings .before .before .before .fresh-ring .ensures)
 
 pub fresh-spec : {M : Type 1} → statement M
 fresh-spec =
@@ -36,6 +43,8 @@ fresh-spec =
     fresh-ring-requires-2
     fresh-ring-requires-3
     fresh-ring-requires-4
+    first-of-requires
     none-requires
+    edition-of-requires
     of-requires
     returns)
