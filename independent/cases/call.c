@@ -9,7 +9,10 @@
 #include "device/image.h"
 #include "device/parts.h"
 
-enum { SPAN_BYTES = 2 * WORD, LIMIT_BYTES = WORD, ANSWER_BYTES = WORD };
+enum {
+    SPAN_BYTES = 2 * WORD, LIMIT_BYTES = WORD, FIRST_BYTES = WORD,
+    ANSWER_BYTES = WORD
+};
 
 /* A little more than a device takes, so that what is too long can be lent. */
 static const size_t most[PIECES] = {
@@ -24,12 +27,16 @@ static const size_t most[PIECES] = {
     [PIECE_REPORT] = IND_REPORT_BYTES + ROOM_BESIDE,
     [PIECE_WINDOWS] = IND_WINDOWS_BYTES + ROOM_BESIDE,
     [PIECE_SPAN] = SPAN_BYTES, [PIECE_LIMIT] = LIMIT_BYTES,
-    [PIECE_ANSWER] = ANSWER_BYTES
+    [PIECE_FIRST] = FIRST_BYTES, [PIECE_ANSWER] = ANSWER_BYTES
 };
 
 const char *const piece_names[PIECES] = {
     "device", "memory", "ring 0", "ring 1", "ring 2", "ring 3", "pack", "pipe",
-    "report", "windows", "memory length", "limit", "answer"
+    "report", "windows", "memory length", "limit", "first", "answer"
+};
+
+const struct calls independent = {
+    ind_fv_fresh, ind_fv_fresh_with, ind_fv_fresh_edition_2, ind_fv_turn
 };
 
 static void *must(void *room)
@@ -108,8 +115,10 @@ void call_start(struct call *call, enum call_kind kind)
         piece_end(&call->pieces[i], 0);
     piece_zeros(&call->pieces[PIECE_DEVICE], IND_IMAGE_BYTES);
     piece_zeros(&call->pieces[PIECE_ANSWER], ANSWER_BYTES);
-    if (kind == CALL_FRESH_WITH)
+    if (kind == CALL_FRESH_WITH || kind == CALL_FRESH_EDITION_2)
         piece_zeros(&call->pieces[PIECE_LIMIT], LIMIT_BYTES);
+    if (kind == CALL_FRESH_EDITION_2)
+        piece_zeros(&call->pieces[PIECE_FIRST], FIRST_BYTES);
     if (kind != CALL_TURN) {
         piece_zeros(&call->pieces[PIECE_WINDOWS], IND_WINDOWS_BYTES);
         piece_zeros(&call->pieces[PIECE_SPAN], SPAN_BYTES);
@@ -142,6 +151,11 @@ uint32_t call_limit(const struct call *call)
     return get_word(call->pieces[PIECE_LIMIT].bytes);
 }
 
+uint32_t call_first(const struct call *call)
+{
+    return get_word(call->pieces[PIECE_FIRST].bytes);
+}
+
 uint32_t call_answer(const struct call *call)
 {
     return get_word(call->pieces[PIECE_ANSWER].bytes);
@@ -164,22 +178,32 @@ static uint8_t *lent(const struct call *call, int piece)
 
 #define LENT(piece) lent(call, piece), call->pieces[piece].length
 
-void call_make(struct call *call, fresh_call *fresh,
-               fresh_with_call *fresh_with, turn_call *turn)
+static uint32_t answer_of(struct call *call, const struct calls *calls)
 {
-    uint32_t answer;
+    switch (call->kind) {
+    case CALL_FRESH:
+        return calls->fresh(LENT(PIECE_DEVICE), LENT(PIECE_WINDOWS),
+                            call_span(call));
+    case CALL_FRESH_WITH:
+        return calls->fresh_with(LENT(PIECE_DEVICE), LENT(PIECE_WINDOWS),
+                                 call_span(call), call_limit(call));
+    case CALL_FRESH_EDITION_2:
+        return calls->fresh_edition_2(LENT(PIECE_DEVICE), LENT(PIECE_WINDOWS),
+                                      call_span(call), call_limit(call),
+                                      call_first(call));
+    default:
+        return calls->turn(LENT(PIECE_DEVICE), LENT(PIECE_MEMORY),
+                           LENT(PIECE_RING), LENT(PIECE_RING + 1),
+                           LENT(PIECE_RING + 2), LENT(PIECE_RING + 3),
+                           LENT(PIECE_PACK), LENT(PIECE_PIPE),
+                           LENT(PIECE_REPORT));
+    }
+}
 
-    if (call->kind == CALL_FRESH)
-        answer = fresh(LENT(PIECE_DEVICE), LENT(PIECE_WINDOWS),
-                       call_span(call));
-    else if (call->kind == CALL_FRESH_WITH)
-        answer = fresh_with(LENT(PIECE_DEVICE), LENT(PIECE_WINDOWS),
-                            call_span(call), call_limit(call));
-    else
-        answer = turn(LENT(PIECE_DEVICE), LENT(PIECE_MEMORY), LENT(PIECE_RING),
-                      LENT(PIECE_RING + 1), LENT(PIECE_RING + 2),
-                      LENT(PIECE_RING + 3), LENT(PIECE_PACK), LENT(PIECE_PIPE),
-                      LENT(PIECE_REPORT));
+void call_make(struct call *call, const struct calls *calls)
+{
+    uint32_t answer = answer_of(call, calls);
+
     put_word(call->pieces[PIECE_ANSWER].bytes, answer);
 }
 

@@ -7,17 +7,18 @@
 
 enum call_kind {
     CALL_FRESH = 0, CALL_TURN = 1, CALL_FRESH_WITH = 2,
+    CALL_FRESH_EDITION_2 = 3,
     CALL_KINDS
 };
 
 /* A turn takes those from DEVICE to REPORT; a making takes DEVICE, WINDOWS and
- * SPAN, the memory's length in 8 bytes, and fresh_with LIMIT too, a word. All
- * leave an ANSWER of 4 bytes. */
+ * SPAN, the memory's length in 8 bytes; fresh_with and fresh_edition_2 LIMIT
+ * too, and the latter FIRST, a word each. All leave an ANSWER of 4 bytes. */
 enum call_piece {
     PIECE_DEVICE, PIECE_MEMORY,
     PIECE_RING, /* and three more */
     PIECE_PACK = PIECE_RING + 4, PIECE_PIPE, PIECE_REPORT,
-    PIECE_WINDOWS, PIECE_SPAN, PIECE_LIMIT, PIECE_ANSWER,
+    PIECE_WINDOWS, PIECE_SPAN, PIECE_LIMIT, PIECE_FIRST, PIECE_ANSWER,
     PIECES
 };
 
@@ -43,11 +44,23 @@ typedef uint32_t fresh_call(uint8_t *, size_t, const uint8_t *, size_t,
                             uint64_t);
 typedef uint32_t fresh_with_call(uint8_t *, size_t, const uint8_t *, size_t,
                                  uint64_t, uint32_t);
+typedef uint32_t fresh_edition_2_call(uint8_t *, size_t, const uint8_t *,
+                                      size_t, uint64_t, uint32_t, uint32_t);
 typedef uint32_t turn_call(uint8_t *, size_t, uint8_t *, size_t,
                            const uint8_t *, size_t, const uint8_t *, size_t,
                            const uint8_t *, size_t, const uint8_t *, size_t,
                            const uint8_t *, size_t, uint8_t *, size_t,
                            uint8_t *, size_t);
+
+/* What a device offers. */
+struct calls {
+    fresh_call *fresh;
+    fresh_with_call *fresh_with;
+    fresh_edition_2_call *fresh_edition_2;
+    turn_call *turn;
+};
+
+extern const struct calls independent; /* this device's */
 
 /* A call whose pieces are all empty. Ends the program without memory. */
 struct call *call_new(void);
@@ -65,14 +78,13 @@ void piece_add(struct piece *piece, const uint8_t *bytes, size_t count);
 void piece_add_word(struct piece *piece, uint32_t word);
 
 /* Starts a call without nulls: device, report and answer have their lengths, a
- * turn's pack and pipe hold nothing, a making's windows, span and limit are
- * zeros. */
+ * turn's pack and pipe hold nothing, a making's windows, span, limit and first
+ * are zeros. */
 void call_start(struct call *call, enum call_kind kind);
 void call_copy(struct call *to, const struct call *from);
 
 /* Makes the call: the pieces are then as the call left them. */
-void call_make(struct call *call, fresh_call *fresh,
-               fresh_with_call *fresh_with, turn_call *turn);
+void call_make(struct call *call, const struct calls *calls);
 
 /* 1 if this piece is one that the call lends, and has no byte. */
 int call_lends_empty(const struct call *call, int piece);
@@ -83,6 +95,7 @@ extern const char *const piece_names[PIECES];
 
 uint64_t call_span(const struct call *call);
 uint32_t call_limit(const struct call *call);
+uint32_t call_first(const struct call *call);
 uint32_t call_answer(const struct call *call);
 
 #endif

@@ -38,15 +38,15 @@ enum case_kind draw_case(struct call *call, uint64_t seed, uint64_t number)
     struct chance c = case_chance(seed, number);
     uint32_t x = below(&c, 1000);
 
-    if (x < 60) {
+    if (x < 115) {
         draw_fresh(call, &c);
         return CASE_FRESH;
     }
-    if (x < 425) {
+    if (x < 450) {
         draw_structured(call, &c);
         return CASE_STRUCTURED;
     }
-    if (x < 880) {
+    if (x < 890) {
         draw_edged(call, &c);
         return CASE_EDGED;
     }

@@ -6,7 +6,7 @@
 #include "cases/call.h"
 
 enum case_kind {
-    CASE_FRESH,      /* a call of fresh or fresh_with */
+    CASE_FRESH,      /* a call of fresh, fresh_with or fresh_edition_2 */
     CASE_STRUCTURED, /* a turn in the middle of a device's life */
     CASE_EDGED,      /* a turn at one or several edges */
     CASE_DAMAGED,    /* any of these with bytes changed, or any bytes */

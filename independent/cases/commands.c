@@ -1,5 +1,7 @@
 #include "cases/commands.h"
 
+#include "cases/editions.h"
+
 static uint32_t lesser(uint32_t a, uint32_t b)
 {
     return a < b ? a : b;
@@ -12,6 +14,8 @@ static uint32_t address_for(struct scene *s, uint32_t length, uint64_t bytes)
 {
     uint32_t last = length - (uint32_t)bytes; /* wraps where they don't fit */
 
+    if (s->full != ANY && mille(s->c, 200)) /* which of 5 and 6 is told? */
+        return 4 * below(s->c, length / 4 + 1) + 1 + below(s->c, 3);
     if (odd(s)) {
         switch (below(s->c, 10)) {
         case 0:
@@ -219,14 +223,35 @@ static void ask_work(struct scene *s, uint32_t number,
 
 /* ---- flags, slot and target ---- */
 
-/* At most what the slot holds. */
+static int at_edge(struct scene *s)
+{
+    return s->edged != 0 && mille(s->c, s->edged);
+}
+
+/* One that is met: what the slot holds, a little less, or any edge. */
 static uint32_t met_target(struct scene *s, uint32_t slot)
 {
     uint32_t holds = s->device.slots[slot];
 
+    if (at_edge(s))
+        return edged_target(s->c, &s->device, slot, 1);
     if (odd(s))
-        return mille(s->c, 300) ? 0 : holds;
+        return mille(s->c, 300) && ind_slot_met(&s->device, slot, 0) ? 0
+                                                                     : holds;
     return holds - below(s->c, lesser(holds, 3) + 1);
+}
+
+/* One that is not: a little more than a slot that is not full holds. */
+static uint32_t unmet_target(struct scene *s, uint32_t slot)
+{
+    uint32_t holds = s->device.slots[slot];
+
+    if (at_edge(s))
+        return edged_target(s->c, &s->device, slot, 0);
+    if (odd(s) && mille(s->c, 300)
+        && !ind_slot_met(&s->device, slot, UINT32_MAX))
+        return UINT32_MAX;
+    return holds + 1 + below(s->c, 1 + (holds < 100));
 }
 
 int make_wait(struct scene *s, struct ind_command *command)
@@ -234,12 +259,10 @@ int make_wait(struct scene *s, struct ind_command *command)
     command->flags |= FLAG_WAIT;
     for (uint32_t i = 0; i < IND_SLOTS; i++) {
         uint32_t slot = (command->rdst + i) % IND_SLOTS;
-        uint32_t holds = s->device.slots[slot];
-        if (holds == UINT32_MAX)
+        if (ind_slot_full(&s->device, slot))
             continue;
         command->rdst = slot;
-        command->target = odd(s) && mille(s->c, 300)
-            ? UINT32_MAX : holds + 1 + below(s->c, 1 + (holds < 100));
+        command->target = unmet_target(s, slot);
         return 1;
     }
     return 0;
@@ -268,14 +291,22 @@ void spoil_header(struct scene *s, struct ind_command *command)
     }
 }
 
+/* So many of 1,000 commands emit: more in edition 2, and for full slots. */
+static uint32_t emitting(const struct scene *s)
+{
+    if (s->full != ANY)
+        return 900;
+    return s->device.edition == IND_EDITION_2 ? 700 : 500;
+}
+
 static void draw_flags(struct scene *s, struct ind_command *command)
 {
     command->flags = command->opcode == WRITE_MEM ? FLAG_PAYLOAD : 0;
     if (mille(s->c, 300))
         command->flags |= FLAG_IRQ;
-    if (mille(s->c, s->full == ANY ? 500 : 900))
+    if (mille(s->c, emitting(s)))
         command->flags |= FLAG_EMIT;
-    if (mille(s->c, 300))
+    if (mille(s->c, s->waits == ANY ? 300 : (uint32_t)s->waits))
         command->flags |= FLAG_WAIT;
     command->rdst = below(s->c, mille(s->c, 800) ? s->slots : IND_SLOTS);
     if (odd(s))

@@ -2,6 +2,7 @@
 #include "cases/commands.h"
 #include "cases/counts.h"
 #include "cases/draw.h"
+#include "cases/editions.h"
 #include "cases/kernels/packs.h"
 #include "cases/limits.h"
 #include "cases/words.h"
@@ -20,6 +21,14 @@ static void damage_image(struct call *call, struct chance *c)
         uint32_t at = below(c, WORD);
         word[at] ^= (uint8_t)(1u << below(c, 8));
     }
+}
+
+/* Makes another edition of it, or none: that is edition 1. */
+static void damage_edition(struct call *call, struct chance *c)
+{
+    uint32_t edition = mille(c, 700) ? odd_edition(c) : any_edition(c);
+
+    put_word(image_word(call, 0, IND_IMAGE_EDITION), edition);
 }
 
 /* Near its head command, where it matters. */
@@ -130,6 +139,8 @@ static void draw_noise(struct call *call, struct chance *c)
         put_word(image_word(call, 0, IND_IMAGE_MARKER), below(c, IND_RINGS));
     if (ways & 8)
         put_word(image_word(call, 0, IND_IMAGE_LIMIT), usual_limit(c));
+    if (mille(c, 500))
+        put_word(image_word(call, 0, IND_IMAGE_EDITION), any_edition(c));
     if (mille(c, 800)) {
         draw_counts(c, below(c, IND_RINGS), IND_STEPS_SPENT, counts);
         put_counts(call, counts);
@@ -139,8 +150,8 @@ static void draw_noise(struct call *call, struct chance *c)
 void draw_damaged(struct call *call, struct chance *c)
 {
     static void (*const ways[])(struct call *, struct chance *) = {
-        damage_image, damage_image, damage_ring, damage_ring, damage_ring,
-        damage_ring_end, damage_code, damage_memory
+        damage_image, damage_image, damage_edition, damage_ring, damage_ring,
+        damage_ring, damage_ring_end, damage_code, damage_memory
     };
 
     if (mille(c, 80)) {

@@ -3,6 +3,7 @@
 
 #include "cases/commands.h"
 #include "cases/draw.h"
+#include "cases/editions.h"
 #include "cases/words.h"
 #include "device/image.h"
 
@@ -24,6 +25,13 @@ static void roughen_frames(struct call *call, struct chance *c)
         else
             edge_bytes(c, image_word(call, ring, IND_IMAGE_BASE), FRAME_BYTES);
     }
+}
+
+/* Any other number than 1 and 2 for the edition: it counts as 1, and a served
+ * turn writes that. Most where the edition shows. */
+static void roughen_edition(struct call *call, struct chance *c)
+{
+    put_word(image_word(call, 0, IND_IMAGE_EDITION), odd_edition(c));
 }
 
 /* Zeros to the end of a ring as long as it may be: a header of them is a
@@ -120,12 +128,12 @@ static void draw_far(struct scene *s)
 
 enum theme {
     THEME_STEPS, THEME_STOPS, THEME_SLOTS, THEME_LEN, THEME_TRANSFERS,
-    THEME_FRAMES, THEME_RECTANGLES, THEME_NONE
+    THEME_FRAMES, THEME_RECTANGLES, THEME_WAITS, THEME_NONE
 };
 
 static enum theme any_theme(struct chance *c)
 {
-    static const uint8_t shares[THEME_NONE] = { 18, 13, 11, 3, 6, 6, 11 };
+    static const uint8_t shares[THEME_NONE] = { 18, 13, 14, 3, 6, 6, 11, 10 };
     uint32_t x = below(c, 100);
     int theme = 0;
 
@@ -136,25 +144,34 @@ static enum theme any_theme(struct chance *c)
 
 static const uint8_t transfers[3] = { WRITE_MEM, READ_MEM, COPY_BUFFER };
 
+/* A kernel that takes the last steps there are, or stops. */
+static void wish_kernel(struct scene *s, enum theme theme)
+{
+    s->opcode = DISPATCH_1D;
+    if (theme == THEME_STEPS) {
+        s->style = STYLE_EXACT;
+        s->odd = 50;
+        return;
+    }
+    s->style = mille(s->c, 850) ? STYLE_MISS
+             : mille(s->c, 500) ? STYLE_NEAR : STYLE_NOISE;
+    s->odd = 100;
+}
+
 /* Sets wishes by a theme; gives the memory's length, or 0 for any. */
 static uint32_t wish(struct scene *s)
 {
-    switch (any_theme(s->c)) {
-    case THEME_STEPS: /* the last that there are */
-        s->opcode = DISPATCH_1D;
-        s->style = STYLE_EXACT;
-        s->odd = 50;
-        return 0;
+    enum theme theme = any_theme(s->c);
+
+    switch (theme) {
+    case THEME_STEPS:
     case THEME_STOPS:
-        s->opcode = DISPATCH_1D;
-        s->style = mille(s->c, 850) ? STYLE_MISS
-                 : mille(s->c, 500) ? STYLE_NEAR : STYLE_NOISE;
-        s->odd = 100;
+        wish_kernel(s, theme);
         return 0;
     case THEME_SLOTS: /* full ones */
         s->opcode = mille(s->c, 600) ? transfers[below(s->c, 3)] : ANY;
         s->full = 900;
-        s->odd = mille(s->c, 500) ? 100 : 500;
+        s->odd = mille(s->c, 300) ? 100 : 600;
         return 0;
     case THEME_LEN: /* the most words, which fit or just don't, or none */
         s->opcode = transfers[below(s->c, 3)];
@@ -170,6 +187,11 @@ static uint32_t wish(struct scene *s)
     case THEME_RECTANGLES:
         s->opcode = mille(s->c, 500) ? FILL_RECT : BLIT;
         s->odd = 250;
+        return 0;
+    case THEME_WAITS: /* for targets at the edges of either edition */
+        s->opcode = mille(s->c, 700) ? BARRIER : ANY;
+        s->waits = 850;
+        s->odd = 50;
         return 0;
     default:
         return 0;
@@ -190,6 +212,8 @@ void draw_edged(struct call *call, struct chance *c)
         draw_turn(&s, wish(&s));
     if (mille(c, 250))
         roughen_frames(call, c);
+    if (mille(c, s.full != ANY || s.waits != ANY ? 350 : 60))
+        roughen_edition(call, c);
     if (way >= 2 && way < 12)
         move_cursor(call, c);
     else if (way >= 12 && way < 43)

@@ -1,5 +1,6 @@
-/* Calls of fresh and of fresh_with. */
+/* Calls of fresh, fresh_with and fresh_edition_2. */
 #include "cases/draw.h"
+#include "cases/editions.h"
 #include "cases/limits.h"
 #include "cases/words.h"
 #include "device/parts.h"
@@ -65,16 +66,19 @@ static void any_window(struct chance *c, uint64_t span, uint32_t pair[2])
         miss_window(c, (uint32_t)span, pair);
 }
 
-/* A making, with a limit named or with none. */
+/* A making, with a limit named or with none, of either edition. */
 static void start_making(struct call *call, struct chance *c)
 {
-    if (mille(c, 400)) {
-        call_start(call, CALL_FRESH);
+    uint32_t x = below(c, 1000);
+
+    call_start(call, x < 250 ? CALL_FRESH
+                   : x < 550 ? CALL_FRESH_WITH : CALL_FRESH_EDITION_2);
+    if (call->kind == CALL_FRESH)
         return;
-    }
-    call_start(call, CALL_FRESH_WITH);
     uint32_t limit = mille(c, 600) ? edged_limit(c) : outside_limit(c);
     put_word(call->pieces[PIECE_LIMIT].bytes, limit);
+    if (call->kind == CALL_FRESH_EDITION_2)
+        put_word(call->pieces[PIECE_FIRST].bytes, first_number(c));
 }
 
 /* What the image held before does not matter, so it holds something. */

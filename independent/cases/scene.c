@@ -3,6 +3,7 @@
 #include <string.h>
 
 #include "cases/counts.h"
+#include "cases/editions.h"
 #include "cases/limits.h"
 #include "device/image.h"
 #include "device/parts.h"
@@ -14,9 +15,10 @@ void scene_start(struct scene *s, struct call *call, struct chance *c,
     s->c = c;
     s->call = call;
     s->odd = odd_mille;
-    s->opcode = s->style = s->len = s->full = ANY;
+    s->opcode = s->style = s->len = s->full = s->waits = ANY;
     s->slots = 8;
     s->device.limit = IND_LIMIT_DEFAULT;
+    s->device.edition = IND_EDITION_1;
     call_start(call, CALL_TURN);
 }
 
@@ -27,7 +29,7 @@ int odd(struct scene *s)
 
 static uint32_t any_memory_len(struct chance *c)
 {
-    switch (below(c, 20)) {
+    switch (below(c, 28)) {
     case 0: /* no multiple of 4 is asked of the memory itself */
         return below(c, 400);
     case 1:
@@ -102,9 +104,17 @@ static int wants_frame(const struct scene *s, uint32_t ring)
     return ring == s->lead && (s->opcode == FILL_RECT || s->opcode == BLIT);
 }
 
+/* In so many of 1,000 scenes most slots in use lie at an edge. In edition 2 a
+ * full slot keeps no command from its work. */
+static uint32_t edged_scenes(const struct scene *s)
+{
+    if (s->waits != ANY)
+        return 1000;
+    return s->device.edition == IND_EDITION_2 ? 600 : 120;
+}
+
 static void draw_slots(struct scene *s)
 {
-    int full = s->full == ANY ? 20 : s->full;
     uint32_t reach = mille(s->c, 700) ? s->slots : IND_SLOTS;
 
     for (uint32_t n = below(s->c, 7); n > 0; n--) {
@@ -112,11 +122,23 @@ static void draw_slots(struct scene *s)
         s->device.slots[slot] = mille(s->c, 800) ? below(s->c, 6)
                                                  : edge_word(s->c);
     }
-    if (s->full == ANY && !mille(s->c, 100))
+    if (s->full == ANY && !mille(s->c, edged_scenes(s)))
         return;
     for (uint32_t slot = 0; slot < reach; slot++) {
-        if (mille(s->c, (uint32_t)full))
-            s->device.slots[slot] = UINT32_MAX - below(s->c, 2);
+        if (mille(s->c, s->full == ANY ? 850 : (uint32_t)s->full))
+            s->device.slots[slot] = s->full == ANY
+                ? edged_number(s->c) : UINT32_MAX - below(s->c, 2);
+    }
+}
+
+/* Rings behind the one that is served are not looked at: most hold nothing. */
+static void empty_later(struct scene *s)
+{
+    uint32_t ring = (s->lead + 1) % IND_RINGS;
+
+    for (; ring != s->device.marker; ring = (ring + 1) % IND_RINGS) {
+        if (mille(s->c, 600))
+            s->heads[ring] = HEAD_NONE;
     }
 }
 
@@ -137,6 +159,8 @@ static void draw_heads(struct scene *s)
         if (s->heads[ring] == HEAD_READY)
             s->lead = ring;
     }
+    if (s->heads[s->lead] == HEAD_READY)
+        empty_later(s);
 }
 
 static int any_opcode(struct scene *s)
@@ -168,6 +192,9 @@ void draw_state(struct scene *s, uint32_t memory_len)
     s->device.limit = s->style == STYLE_EXACT ? exact_limit(s->c)
                                               : usual_limit(s->c);
     draw_memory(s, memory_len != 0 ? memory_len : any_memory_len(s->c));
+    s->device.edition = s->full != ANY && mille(s->c, 300)
+        ? IND_EDITION_1 : any_edition(s->c);
+    s->edged = s->waits != ANY ? 850 : 250;
     draw_slots(s);
     draw_taken(s);
     for (uint32_t i = 0; i < IND_RINGS; i++) {

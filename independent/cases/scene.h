@@ -26,6 +26,9 @@ struct scene {
     int style;  /* of the kernel that it runs */
     int len;    /* of a transfer */
     int full;   /* so many of 1,000 slots in use are full, or one below it */
+    int waits;  /* so many of 1,000 commands wait, for slots at an edge */
+
+    uint32_t edged; /* so many of 1,000 targets lie at an edge; 0: none */
 
     enum head heads[IND_RINGS];
     uint32_t lead;  /* the ring that will be served, if one is */
@@ -43,8 +46,8 @@ enum { ANY = -1 };
 void scene_start(struct scene *s, struct call *call, struct chance *c,
                  uint32_t odd);
 
-/* Memory, windows, slots, marker, limit, counts and frames; 0 for any length
- * of memory. */
+/* Memory, windows, edition, slots, marker, limit, counts and frames; 0 for any
+ * length of memory. */
 void draw_state(struct scene *s, uint32_t memory_len);
 /* Parts of it. A window lies inside the memory. */
 void draw_memory(struct scene *s, uint32_t length);

@@ -5,7 +5,6 @@
 #include "device/image.h"
 
 const char *const sight_names[SIGHTS] = {
-    [SEEN_FENCE] = "a fence reported",
     [SEEN_IRQ] = "IRQ reported",
     [SEEN_NO_IRQ] = "IRQ asked for and not reported",
     [SEEN_WAIT] = "a wait that was met",
@@ -13,6 +12,7 @@ const char *const sight_names[SIGHTS] = {
     [SEEN_WAIT_AND_EMIT] = "wait and emit together",
     [SEEN_FAULTY_WAIT] = "a faulty header with a wait",
     [SEEN_LAST_SLOT] = "a slot raised to 4,294,967,295",
+    [SEEN_FULL_OFF] = "outcome 5 of a transfer not in fours",
     [SEEN_WORDS] = "words read",
     [SEEN_MEMORY] = "memory changed",
     [SEEN_KEPT_STORES] = "memory changed by a kernel that stopped",
@@ -21,7 +21,8 @@ const char *const sight_names[SIGHTS] = {
     [SEEN_STEP_MORE] = "outcome 14 where one step more would be a WFI",
     [SEEN_LATER_RING] = "a ring served after one that was not ready",
     [SEEN_RING_END] = "a command that ends with its ring",
-    [SEEN_REWRITTEN] = "a held flag or an unset frame's words written anew",
+    [SEEN_REWRITTEN] = "a held flag, an unset frame's words or an edition "
+        "written anew",
     [SEEN_LEN_0] = "a transfer of len 0, done",
     [SEEN_LEN_0_OUTSIDE] = "a transfer of len 0, outcome 8",
     [SEEN_LEN_255] = "a transfer of len 255, done",
@@ -68,14 +69,13 @@ static void see_header(const struct served *v, uint64_t *counts)
     int waits = (command->flags & FLAG_WAIT) != 0;
     size_t end = (size_t)v->device.rings[report->ring].cursor + command->size;
 
-    counts[SEEN_FENCE] += report->fence != 0;
     counts[SEEN_LAST_SLOT] += report->fence == UINT32_MAX;
     counts[SEEN_IRQ] += report->irq != 0;
     counts[SEEN_NO_IRQ] += (command->flags & FLAG_IRQ) && report->irq == 0;
     counts[SEEN_WAIT] += waits && !fault;
     counts[SEEN_WAIT_EQUAL] += waits && !fault && command->target != 0
         && command->target == v->device.slots[command->rdst];
-    counts[SEEN_WAIT_AND_EMIT] += waits && report->fence != 0;
+    counts[SEEN_WAIT_AND_EMIT] += waits && report->emitted != 0;
     counts[SEEN_FAULTY_WAIT] += waits && fault;
     counts[SEEN_LATER_RING] += report->ring != v->device.marker;
     counts[SEEN_RING_END] +=
@@ -113,6 +113,8 @@ static void see_transfer(const struct served *v, uint64_t *counts)
 
     counts[SEEN_FULL_RING] += done && command->payload != NULL
         && command->len != 0 && ring->cursor + command->size == IND_RING_MOST;
+    counts[SEEN_FULL_OFF] += outcome == IND_SLOT_FULL
+        && !ind_is_four(command->arg0);
     counts[SEEN_LEN_0] += done && command->len == 0;
     counts[SEEN_LEN_0_OUTSIDE] += outcome == IND_OUTSIDE_WINDOW
         && command->len == 0;

@@ -4,8 +4,10 @@
 #include <stdlib.h>
 #include <string.h>
 
+#include "cases/fences.h"
 #include "cases/kernels/table.h"
 #include "cases/limits.h"
+#include "cases/lines.h"
 #include "cases/sights.h"
 #include "device/image.h"
 
@@ -33,7 +35,7 @@ static const struct {
 };
 
 static struct {
-    uint64_t calls, fresh[2], fresh_with[3], fresh_with_both;
+    uint64_t calls, fresh[2], with[2][3], with_both[2]; /* by edition */
     uint64_t idle, refused[REFUSALS], refused_limit, wrong[WRONGS];
     uint64_t unequal_sums[REFUSALS], unequal_alone;
     uint64_t ring_round[IND_RINGS], outcome_round[IND_OUTCOMES];
@@ -105,15 +107,6 @@ static void trace_dispatch(struct trace *trace, const struct call *before,
     free(copy);
 }
 
-static void count_limit(uint32_t limit)
-{
-    int span = 0;
-
-    while (limits[span] < limit)
-        span++;
-    count.limit[span]++;
-}
-
 static void count_trace(const struct trace *trace)
 {
     for (int i = 0; i < ROWS; i++)
@@ -172,7 +165,7 @@ static void tally_served(const struct call *before, const struct call *after)
     if (ran(&v)) {
         trace_dispatch(&trace, before, &v.command, own, v.device.limit);
         count_trace(&trace);
-        count_limit(v.device.limit);
+        count.limit[span_of(limits, v.device.limit)]++;
     }
 }
 
@@ -196,9 +189,12 @@ static void tally_making(const struct call *after, uint32_t answer)
         count.fresh[answer != 0]++;
         return;
     }
-    count.fresh_with[answer == 0 ? 0 : answer - IND_REFUSED_MEMORY + 1]++;
-    count.fresh_with_both += answer == IND_REFUSED_MEMORY
+    int second = after->kind == CALL_FRESH_EDITION_2;
+    count.with[second][answer == 0 ? 0 : answer - IND_REFUSED_MEMORY + 1]++;
+    count.with_both[second] += answer == IND_REFUSED_MEMORY
         && limit_outside(call_limit(after));
+    if (second)
+        fences_making(after);
 }
 
 /* Whether the call is not refused so with counts of 0. */
@@ -209,7 +205,7 @@ static int counts_alone(const struct call *before, uint32_t answer)
 
     call_copy(mended, before);
     memset(image->bytes + WORD * IND_IMAGE_TAKEN, 0, WORD * IND_COUNTS);
-    call_make(mended, ind_fv_fresh, ind_fv_fresh_with, ind_fv_turn);
+    call_make(mended, &independent);
     int alone = call_answer(mended) != answer;
     call_free(mended);
     return alone;
@@ -229,23 +225,30 @@ static void tally_refused(const struct call *before, uint32_t answer)
     count.unequal_alone += (uint64_t)counts_alone(before, answer);
 }
 
+static void tally_turn(const struct call *before, const struct call *after,
+                       uint32_t answer)
+{
+    fences_turn(before, after);
+    if (answer == IND_IDLE)
+        count.idle++;
+    else if (answer >= IND_REFUSED_MEMORY)
+        tally_refused(before, answer);
+    else
+        tally_served(before, after);
+}
+
 void tally_call(const struct call *before, const struct call *after)
 {
     uint32_t answer = call_answer(after);
 
     count.calls++;
     tally_nulls(before);
-    if (answer >= IND_WRONG_IMAGE && answer <= IND_WRONG_WINDOWS) {
+    if (answer >= IND_WRONG_IMAGE && answer <= IND_WRONG_WINDOWS)
         count.wrong[answer - IND_WRONG_IMAGE]++;
-    } else if (after->kind != CALL_TURN) {
+    else if (after->kind != CALL_TURN)
         tally_making(after, answer);
-    } else if (answer == IND_IDLE) {
-        count.idle++;
-    } else if (answer >= IND_REFUSED_MEMORY) {
-        tally_refused(before, answer);
-    } else {
-        tally_served(before, after);
-    }
+    else
+        tally_turn(before, after, answer);
 }
 
 int tally_first_full(const struct call *before, const struct call *after)
@@ -261,51 +264,6 @@ int tally_first_full(const struct call *before, const struct call *after)
 }
 
 /* ---- the table ---- */
-
-/* With no file, only counts the lines that stand at 0. */
-static int line(FILE *out, const char *name, uint64_t value)
-{
-    if (out != NULL)
-        fprintf(out, "  %10" PRIu64 " %s\n", value, name);
-    return value == 0;
-}
-
-static int lines(FILE *out, const char *format, uint32_t first,
-                 const uint64_t *values, uint32_t number)
-{
-    char name[32];
-    int missing = 0;
-
-    for (uint32_t i = 0; i < number; i++) {
-        snprintf(name, sizeof name, format, first + i);
-        missing += line(out, name, values[i]);
-    }
-    return missing;
-}
-
-static void title(FILE *out, const char *text)
-{
-    if (out != NULL)
-        fprintf(out, "%s\n", text);
-}
-
-static int limit_lines(FILE *out)
-{
-    uint32_t first = IND_LIMIT_LEAST;
-    char name[32];
-    int missing = 0;
-
-    for (int i = 0; i < LIMITS; i++) {
-        if (first == limits[i])
-            snprintf(name, sizeof name, "limit %" PRIu32, first);
-        else
-            snprintf(name, sizeof name, "limit %" PRIu32 " to %" PRIu32, first,
-                     limits[i]);
-        missing += line(out, name, count.limit[i]);
-        first = limits[i] + 1;
-    }
-    return missing;
-}
 
 static int count_lines(FILE *out)
 {
@@ -323,6 +281,17 @@ static int count_lines(FILE *out)
     return missing;
 }
 
+static int answer_lines(FILE *out, const char *name, const uint64_t counts[3])
+{
+    char full[32];
+    int missing = 0;
+
+    snprintf(full, sizeof full, "%s 0", name);
+    missing += line(out, full, counts[0]);
+    snprintf(full, sizeof full, "%s %%u", name);
+    return missing + lines(out, full, IND_REFUSED_MEMORY, counts + 1, 2);
+}
+
 static int table_of(FILE *out)
 {
     int missing = 0;
@@ -330,9 +299,8 @@ static int table_of(FILE *out)
     title(out, "calls by what they answer");
     missing += line(out, "fresh 0", count.fresh[0]);
     missing += line(out, "fresh 101", count.fresh[1]);
-    missing += line(out, "fresh_with 0", count.fresh_with[0]);
-    missing += line(out, "fresh_with 101", count.fresh_with[1]);
-    missing += line(out, "fresh_with 102", count.fresh_with[2]);
+    missing += answer_lines(out, "fresh_with", count.with[0]);
+    missing += answer_lines(out, "fresh_edition_2", count.with[1]);
     missing += line(out, "idle", count.idle);
     missing += lines(out, "refused %u", IND_REFUSED_MEMORY, count.refused,
                      REFUSALS);
@@ -342,11 +310,14 @@ static int table_of(FILE *out)
     for (int i = 0; i < OPCODES; i++)
         missing += line(out, opcodes[i].name, count.opcode_done[i]);
     title(out, "calls with a limit of steps outside its bounds");
-    missing += line(out, "fresh_with 101", count.fresh_with_both);
+    missing += line(out, "fresh_with 101", count.with_both[0]);
+    missing += line(out, "fresh_edition_2 101", count.with_both[1]);
     missing += line(out, "refused 102", count.refused_limit);
     missing += count_lines(out);
     title(out, "calls that ran a kernel, by the limit of steps");
-    missing += limit_lines(out);
+    missing += span_lines(out, "limit", IND_LIMIT_LEAST, limits, count.limit,
+                          LIMITS);
+    missing += fences_lines(out);
     title(out, "calls that show");
     for (int i = 0; i < SIGHTS; i++)
         missing += line(out, sight_names[i], count.sight[i]);

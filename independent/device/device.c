@@ -33,13 +33,19 @@ static uint32_t making_refusal(const struct ind_device *device,
     return limit_fits(device->limit) ? 0 : IND_REFUSED_STATE;
 }
 
-uint32_t ind_fresh_with(struct ind_device *device, uint64_t memory_len,
-                        const uint32_t windows[IND_RINGS][2], uint32_t limit)
+uint32_t ind_make(struct ind_device *device, uint64_t memory_len,
+                  const uint32_t windows[IND_RINGS][2],
+                  const struct ind_choice *choice)
 {
-    const struct ind_device empty = {.limit = IND_LIMIT_DEFAULT}; /* else 0 */
+    const struct ind_device empty = { /* all else is 0 */
+        .limit = IND_LIMIT_DEFAULT, .edition = IND_EDITION_1
+    };
 
     *device = empty;
-    device->limit = limit;
+    device->limit = choice->limit;
+    device->edition = choice->edition;
+    for (uint32_t i = 0; i < IND_SLOTS; i++)
+        device->slots[i] = choice->first;
     for (uint32_t i = 0; i < IND_RINGS; i++) {
         device->rings[i].window_start = windows[i][0];
         device->rings[i].window_length = windows[i][1];
@@ -48,6 +54,23 @@ uint32_t ind_fresh_with(struct ind_device *device, uint64_t memory_len,
     if (refused != 0)
         *device = empty;
     return refused;
+}
+
+uint32_t ind_fresh_edition_2(struct ind_device *device, uint64_t memory_len,
+                             const uint32_t windows[IND_RINGS][2],
+                             uint32_t limit, uint32_t first)
+{
+    const struct ind_choice choice = {limit, IND_EDITION_2, first};
+
+    return ind_make(device, memory_len, windows, &choice);
+}
+
+uint32_t ind_fresh_with(struct ind_device *device, uint64_t memory_len,
+                        const uint32_t windows[IND_RINGS][2], uint32_t limit)
+{
+    const struct ind_choice choice = {limit, IND_EDITION_1, 0};
+
+    return ind_make(device, memory_len, windows, &choice);
 }
 
 uint32_t ind_fresh(struct ind_device *device, uint64_t memory_len,
@@ -109,7 +132,7 @@ static int ready(const struct ind_device *device, uint32_t ring,
         return 0;
     return ind_header_fault(command) != IND_DONE
         || (command->flags & FLAG_WAIT) == 0
-        || device->slots[command->rdst] >= command->target;
+        || ind_slot_met(device, command->rdst, command->target);
 }
 
 static uint32_t outcome_of(struct ind_device *device, uint32_t ring,
@@ -139,8 +162,8 @@ static void serve(struct ind_device *device, uint32_t ring,
     /* A failed command still signals, unless it has no slot to signal in. */
     if ((command->flags & FLAG_EMIT) != 0
         && (outcome == IND_DONE || outcome > IND_SLOT_FULL)) {
-        device->slots[command->rdst] += 1;
-        report->fence = device->slots[command->rdst];
+        report->fence = ind_slot_emit(device, command->rdst);
+        report->emitted = 1;
     }
     if (command->opcode == READ_MEM && outcome == IND_DONE)
         report->words_read = command->len;

@@ -61,6 +61,9 @@ enum {
     IND_OUTCOMES
 };
 
+/* Editions of the protocol. In edition 2 the numbers of the slots go round. */
+enum { IND_EDITION_1 = 1, IND_EDITION_2 = 2 };
+
 /* Counts of commands: one for each ring, then one for each outcome. */
 enum { IND_COUNTS = IND_RINGS + IND_OUTCOMES };
 
@@ -83,15 +86,18 @@ struct ind_device {
     uint32_t limit; /* of steps */
     uint32_t taken[IND_RINGS];       /* commands, a count for each ring */
     uint32_t outcomes[IND_OUTCOMES]; /* the same, a count for each outcome */
+    uint32_t edition; /* 2, or any other number for 1 */
 };
 
 struct ind_report {
     uint32_t status; /* 0 served, 1 idle, or 101 to 105 */
     uint32_t ring, outcome, fence, words_read, irq;
+    uint32_t emitted; /* 1 with a fence, which may be 0, else 0 */
 };
 
-/* Makes a fresh device of the default limit; windows are pairs (start, length).
- * Gives 0, or 101 and then a fresh device of four empty windows at 0. */
+/* Makes a fresh device of edition 1 and the default limit; windows are pairs
+ * (start, length). Gives 0, or 101 and then such a device of four empty windows
+ * at 0. */
 uint32_t ind_fresh(struct ind_device *device, uint64_t memory_len,
                    const uint32_t windows[IND_RINGS][2]);
 
@@ -99,6 +105,12 @@ uint32_t ind_fresh(struct ind_device *device, uint64_t memory_len,
  * comes the device that ind_fresh gives with 101. */
 uint32_t ind_fresh_with(struct ind_device *device, uint64_t memory_len,
                         const uint32_t windows[IND_RINGS][2], uint32_t limit);
+
+/* The same of edition 2, every slot at `first`. What comes with 101 or 102 is
+ * of edition 1, its slots at 0. */
+uint32_t ind_fresh_edition_2(struct ind_device *device, uint64_t memory_len,
+                             const uint32_t windows[IND_RINGS][2],
+                             uint32_t limit, uint32_t first);
 
 /* Takes one turn and gives the report's status.
  * Any bytes and any device state may be handed in. */

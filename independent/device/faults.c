@@ -104,7 +104,7 @@ uint32_t ind_work_fault(const struct ind_device *device, uint32_t ring,
     struct ind_frame asked = ind_frame_asked(command);
 
     if ((command->flags & FLAG_EMIT) != 0
-        && device->slots[command->rdst] == UINT32_MAX)
+        && ind_slot_full(device, command->rdst))
         return IND_SLOT_FULL;
     switch (command->opcode) {
     case WRITE_MEM:

@@ -37,6 +37,8 @@ void ind_image_encode(const struct ind_device *device, uint8_t *image)
         put_next(&image, device->taken[i]);
     for (uint32_t i = 0; i < IND_OUTCOMES; i++)
         put_next(&image, device->outcomes[i]);
+    put_next(&image, device->edition == IND_EDITION_2 ? IND_EDITION_2
+                                                      : IND_EDITION_1);
 }
 
 void ind_image_decode(const uint8_t *image, struct ind_device *device)
@@ -59,6 +61,7 @@ void ind_image_decode(const uint8_t *image, struct ind_device *device)
         device->taken[i] = get_next(&image);
     for (uint32_t i = 0; i < IND_OUTCOMES; i++)
         device->outcomes[i] = get_next(&image);
+    device->edition = get_next(&image);
 }
 
 void ind_report_encode(const struct ind_report *report, uint8_t *bytes)
@@ -69,6 +72,7 @@ void ind_report_encode(const struct ind_report *report, uint8_t *bytes)
     put_next(&bytes, report->fence);
     put_next(&bytes, report->words_read);
     put_next(&bytes, report->irq);
+    put_next(&bytes, report->emitted);
 }
 
 void ind_report_decode(const uint8_t *bytes, struct ind_report *report)
@@ -79,11 +83,12 @@ void ind_report_decode(const uint8_t *bytes, struct ind_report *report)
     report->fence = get_next(&bytes);
     report->words_read = get_next(&bytes);
     report->irq = get_next(&bytes);
+    report->emitted = get_next(&bytes);
 }
 
-uint32_t ind_fv_fresh_with(uint8_t *device, size_t device_len,
-                           const uint8_t *windows, size_t windows_len,
-                           uint64_t memory_len, uint32_t limit)
+static uint32_t make(uint8_t *device, size_t device_len,
+                     const uint8_t *windows, size_t windows_len,
+                     uint64_t memory_len, const struct ind_choice *choice)
 {
     uint32_t pairs[IND_RINGS][2];
     struct ind_device made;
@@ -96,9 +101,28 @@ uint32_t ind_fv_fresh_with(uint8_t *device, size_t device_len,
         pairs[i][0] = get_next(&windows);
         pairs[i][1] = get_next(&windows);
     }
-    uint32_t answer = ind_fresh_with(&made, memory_len, pairs, limit);
+    uint32_t answer = ind_make(&made, memory_len, pairs, choice);
     ind_image_encode(&made, device);
     return answer;
+}
+
+uint32_t ind_fv_fresh_edition_2(uint8_t *device, size_t device_len,
+                                const uint8_t *windows, size_t windows_len,
+                                uint64_t memory_len, uint32_t limit,
+                                uint32_t first)
+{
+    const struct ind_choice choice = {limit, IND_EDITION_2, first};
+
+    return make(device, device_len, windows, windows_len, memory_len, &choice);
+}
+
+uint32_t ind_fv_fresh_with(uint8_t *device, size_t device_len,
+                           const uint8_t *windows, size_t windows_len,
+                           uint64_t memory_len, uint32_t limit)
+{
+    const struct ind_choice choice = {limit, IND_EDITION_1, 0};
+
+    return make(device, device_len, windows, windows_len, memory_len, &choice);
 }
 
 uint32_t ind_fv_fresh(uint8_t *device, size_t device_len,

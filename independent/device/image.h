@@ -1,6 +1,7 @@
-/* The device as bytes: an image and a report, and the three calls on them. They
- * have the interface of the other device's fv_fresh, fv_fresh_with and fv_turn,
- * so that both can be linked into one program. */
+/* The device as bytes: an image and a report, and the four calls on them. They
+ * have the interface of the other device's fv_fresh, fv_fresh_with,
+ * fv_fresh_edition_2 and fv_turn, so that both can be linked into one
+ * program. */
 #ifndef IND_IMAGE_H
 #define IND_IMAGE_H
 
@@ -20,13 +21,14 @@ enum {
     IND_IMAGE_LIMIT,
     IND_IMAGE_TAKEN,
     IND_IMAGE_OUTCOMES = IND_IMAGE_TAKEN + IND_RINGS,
-    IND_IMAGE_WORDS = IND_IMAGE_OUTCOMES + IND_OUTCOMES
+    IND_IMAGE_EDITION = IND_IMAGE_OUTCOMES + IND_OUTCOMES,
+    IND_IMAGE_WORDS
 };
 
 /* Words of the report. */
 enum {
     IND_REPORT_STATUS, IND_REPORT_RING, IND_REPORT_OUTCOME, IND_REPORT_FENCE,
-    IND_REPORT_WORDS_READ, IND_REPORT_IRQ,
+    IND_REPORT_WORDS_READ, IND_REPORT_IRQ, IND_REPORT_EMITTED,
     IND_REPORT_WORDS
 };
 
@@ -43,7 +45,8 @@ enum {
     IND_WRONG_WINDOWS = 203
 };
 
-/* The held flag becomes 0 or 1; without a frame its three words are 0. */
+/* The held flag becomes 0 or 1; without a frame its three words are 0. The
+ * edition becomes 1 or 2. */
 void ind_image_encode(const struct ind_device *device, uint8_t *image);
 void ind_image_decode(const uint8_t *image, struct ind_device *device);
 
@@ -59,6 +62,12 @@ uint32_t ind_fv_fresh(uint8_t *device, size_t device_len,
 uint32_t ind_fv_fresh_with(uint8_t *device, size_t device_len,
                            const uint8_t *windows, size_t windows_len,
                            uint64_t memory_len, uint32_t limit);
+
+/* The same of edition 2, with the number that every slot starts with. */
+uint32_t ind_fv_fresh_edition_2(uint8_t *device, size_t device_len,
+                                const uint8_t *windows, size_t windows_len,
+                                uint64_t memory_len, uint32_t limit,
+                                uint32_t first);
 
 /* Gives the report's first word; or 201 or 202. */
 uint32_t ind_fv_turn(uint8_t *device, size_t device_len, uint8_t *memory,

@@ -123,10 +123,29 @@ uint32_t ind_work_fault(const struct ind_device *device, uint32_t ring,
 int ind_counts_agree(const struct ind_device *device);
 void ind_count(struct ind_device *device, uint32_t ring, uint32_t outcome);
 
+/* ---- slots.c: the slots of either edition ---- */
+
+int ind_slot_met(const struct ind_device *device, uint32_t slot,
+                 uint32_t target);
+int ind_slot_full(const struct ind_device *device, uint32_t slot);
+uint32_t ind_slot_emit(struct ind_device *device, uint32_t slot);
+
 /* ---- work.c: a faultless command's work ---- */
 
 uint32_t ind_work(struct ind_device *device, uint32_t ring,
                   const struct ind_command *command,
                   const struct ind_lent *lent);
+
+/* ---- device.c: a making ---- */
+
+/* What is chosen at it. */
+struct ind_choice {
+    uint32_t limit, edition;
+    uint32_t first; /* number of all slots; 0 in edition 1 */
+};
+
+uint32_t ind_make(struct ind_device *device, uint64_t memory_len,
+                  const uint32_t windows[IND_RINGS][2],
+                  const struct ind_choice *choice);
 
 #endif

@@ -8,7 +8,6 @@
 #include "cases/number.h"
 #include "cases/share.h"
 #include "cases/tally.h"
-#include "device/image.h"
 #include "records/records.h"
 
 /* A body's bytes: the whole set is to stay small. */
@@ -27,7 +26,7 @@ static int record_case(uint64_t seed, uint64_t number, struct call *before,
     enum case_kind kind = draw_case(before, seed, number);
 
     call_copy(after, before);
-    call_make(after, ind_fv_fresh, ind_fv_fresh_with, ind_fv_turn);
+    call_make(after, &independent);
     size_t most = tally_first_full(before, after) ? FULL_LONGEST : LONGEST;
     size_t bytes = record_write(stdout, before, after, most);
     if (bytes == 0)

@@ -4,14 +4,13 @@
 #include <stdio.h>
 
 #include "cases/share.h"
-#include "device/image.h"
 #include "records/records.h"
 
 /* Makes one call again; 1 if it differs from the record. */
 static int differs(uint64_t number, struct call *again,
                    const struct call *after)
 {
-    call_make(again, ind_fv_fresh, ind_fv_fresh_with, ind_fv_turn);
+    call_make(again, &independent);
     int piece = call_difference(again, after);
     if (piece >= 0)
         printf("call %" PRIu64 ": %s differs\n", number, piece_names[piece]);

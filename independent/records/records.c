@@ -24,6 +24,12 @@ static const struct part fresh_with_parts[] = {
     { PIECE_DEVICE, 1 }, { PIECE_ANSWER, 1 }, { PIECE_LIMIT, 0 }
 };
 
+static const struct part fresh_edition_2_parts[] = {
+    { PIECE_WINDOWS, 0 }, { PIECE_SPAN, 0 }, { PIECE_DEVICE, 0 },
+    { PIECE_DEVICE, 1 }, { PIECE_ANSWER, 1 }, { PIECE_LIMIT, 0 },
+    { PIECE_FIRST, 0 }
+};
+
 static const struct part turn_parts[] = {
     { PIECE_DEVICE, 0 }, { PIECE_MEMORY, 0 }, { PIECE_RING, 0 },
     { PIECE_RING + 1, 0 }, { PIECE_RING + 2, 0 }, { PIECE_RING + 3, 0 },
@@ -42,6 +48,9 @@ static const struct part *parts_of(enum call_kind kind, size_t *count)
     case CALL_FRESH_WITH:
         *count = COUNT(fresh_with_parts);
         return fresh_with_parts;
+    case CALL_FRESH_EDITION_2:
+        *count = COUNT(fresh_edition_2_parts);
+        return fresh_edition_2_parts;
     default:
         *count = COUNT(turn_parts);
         return turn_parts;

@@ -13,6 +13,7 @@ static void fresh_devices(void)
 
     memset(&empty, 0, sizeof empty);
     empty.limit = IND_LIMIT_DEFAULT;
+    empty.edition = IND_EDITION_1;
     memset(&device, 0xEE, sizeof device);
     CHECK_EQ(ind_fresh(&device, 16, good), 0);
     CHECK_EQ(device.rings[2].window_start, 8);

@@ -4,10 +4,8 @@
 #include <string.h>
 
 enum {
-    WRITE = 0x01, READ = 0x02, FILL = 0x10, DISPATCH = 0x20, BARRIER = 0x22,
-    FB = 0x30, NO_OPCODE = 0xFF, EMIT = 2, WAIT = 4, PAYLOAD = 8,
+    WRITE = 0x01, BARRIER = 0x22, EMIT = 2, WAIT = 4, PAYLOAD = 8,
     HEADER = IND_HEADER_BYTES,
-    FULL = 63,  /* a full slot */
     LENGTH = 64 /* of the windows */
 };
 
@@ -27,36 +25,7 @@ static uint32_t sum(struct stage *stage, uint32_t first, uint32_t end)
     return all;
 }
 
-/* ---- a command for each outcome ---- */
-
-static void push_outcome(struct stage *stage, uint32_t ring, uint32_t outcome)
-{
-    const uint32_t commands[IND_OUTCOMES][4] = {
-        {head(BARRIER, 0, 0, 0), 0, 0, 0}, {head(NO_OPCODE, 0, 0, 0), 0, 0, 0},
-        {head(BARRIER, 0x10, 0, 0), 0, 0, 0},
-        {head(BARRIER, PAYLOAD, 0, 0), 0, 0, 0},
-        {head(BARRIER, EMIT, IND_SLOTS, 0), 0, 0, 0},
-        {head(BARRIER, EMIT, FULL, 0), 0, 0, 0}, {head(READ, 0, 0, 1), 2, 0, 0},
-        {head(FILL, 0, 0, 0), 0, 0, 0}, {head(READ, 0, 0, 1), LENGTH, 0, 0},
-        {head(FB, 0, 0, 0), 0, 0, 0},
-        {head(DISPATCH, 0, 0, 0), 0, 1, 0}, {head(DISPATCH, 0, 0, 0), 1, 1, 0},
-        {head(DISPATCH, 0, 0, 0), 1, 1, 0}, {head(DISPATCH, 0, 0, 0), 1, 1, 0},
-        {head(DISPATCH, 0, 0, 0), 1, 1, 0}
-    };
-    const uint32_t *words = commands[outcome];
-
-    push(stage, ring, words[0], words[1], words[2], words[3]);
-}
-
-/* A kernel of one word that stops with this outcome, 11 to 14. */
-static void pack_stop(struct stage *stage, uint32_t outcome)
-{
-    const uint32_t stops[] = {
-        0, MEMBAR, s_shape(2, 0, 0, -4), b_shape(0, 0, 0, 0)
-    };
-
-    pack_one(stage, &stops[outcome - IND_NOT_LISTED], 1);
-}
+/* ---- served turns ---- */
 
 /* The next turn serves this ring, with this outcome. */
 static struct stage *stage_with(uint32_t ring, uint32_t outcome)
@@ -65,13 +34,11 @@ static struct stage *stage_with(uint32_t ring, uint32_t outcome)
 
     if (outcome >= IND_NOT_LISTED)
         pack_stop(stage, outcome);
-    stage->device.slots[FULL] = UINT32_MAX;
+    stage->device.slots[FULL_SLOT] = UINT32_MAX;
     stage->device.marker = ring;
-    push_outcome(stage, ring, outcome);
+    push_outcome(stage, ring, outcome, 0);
     return stage;
 }
-
-/* ---- served turns ---- */
 
 /* Serves, and checks that two counts have changed and no other. */
 static void serve_counted(struct stage *stage, uint32_t ring, uint32_t outcome)
@@ -266,7 +233,7 @@ static void push_job(struct stage *stage)
 {
     for (uint32_t n = 0; n < 150; n++) {
         uint32_t ring = (n + n / 7) % IND_RINGS;
-        push_outcome(stage, ring, n % IND_BAD_PLACE);
+        push_outcome(stage, ring, n % IND_BAD_PLACE, 0);
         if (n % 3 == 0) {
             push(stage, ring, head(WRITE, PAYLOAD | EMIT, 1, n % 5), 0, 0, 0);
             for (uint32_t i = n % 5; i > 0; i--)
@@ -285,7 +252,7 @@ static void whole_job(void)
     uint32_t turns = 0, told[IND_OUTCOMES] = {0};
 
     pack_stop(stage, IND_NOT_LISTED);
-    stage->device.slots[FULL] = UINT32_MAX;
+    stage->device.slots[FULL_SLOT] = UINT32_MAX;
     push_job(stage);
     for (; stage_turn(stage) == IND_SERVED; turns++) {
         told[stage->report.outcome]++;

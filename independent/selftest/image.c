@@ -15,7 +15,8 @@ enum {
     MARKER = 4 * IND_IMAGE_MARKER,
     LIMIT = 4 * IND_IMAGE_LIMIT,
     TAKEN = 4 * IND_IMAGE_TAKEN,
-    OUTCOMES = 4 * IND_IMAGE_OUTCOMES
+    OUTCOMES = 4 * IND_IMAGE_OUTCOMES,
+    EDITION = 4 * IND_IMAGE_EDITION
 };
 
 /* A turn on bytes: four times the same ring, and an empty pack. */
@@ -72,7 +73,9 @@ static void refused_fresh(void)
     CHECK_EQ(ind_fv_fresh(image, sizeof image, windows, sizeof windows, 3),
              101);
     CHECK_EQ(get_word(image + LIMIT), 16384);
+    CHECK_EQ(get_word(image + EDITION), 1);
     put_word(image + LIMIT, 0);
+    put_word(image + EDITION, 0);
     for (size_t i = 0; i < sizeof image; i++)
         CHECK_EQ(image[i], 0);
 }
@@ -98,8 +101,8 @@ static void limit_in_the_image(void)
     uint8_t empty[IND_IMAGE_BYTES] = {0};
 
     CHECK_EQ(IND_IMAGE_LIMIT, 93);
-    CHECK_EQ(IND_IMAGE_BYTES, 452);
     put_word(empty + LIMIT, 16384);
+    put_word(empty + EDITION, 1);
     memcpy(made, empty, sizeof made);
     put_word(made + 4, 64);
     for (uint32_t i = 0; i < COUNT(limits); i++) {
@@ -180,7 +183,7 @@ static void counts_in_the_image(void)
 
     CHECK_EQ(IND_IMAGE_TAKEN, 94);
     CHECK_EQ(IND_IMAGE_OUTCOMES, 98);
-    CHECK_EQ(IND_IMAGE_WORDS, 113);
+    CHECK_EQ(IND_IMAGE_WORDS, 114);
     for (uint32_t word = 94; word < 113; word++) {
         uint32_t other = word < 98 ? 112 : 97;
         fresh_image(image);
@@ -216,6 +219,7 @@ static void every_word_is_kept(void)
         put_word(image + 4 * i, 1000 + i);
     for (uint32_t i = 0; i < IND_RINGS; i++)
         put_word(image + NEXT * i + HELD, 1);
+    put_word(image + EDITION, 2);
     ind_image_decode(image, &device);
     ind_image_encode(&device, again);
     CHECK(memcmp(image, again, sizeof image) == 0);

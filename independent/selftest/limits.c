@@ -25,7 +25,7 @@ static uint32_t make_with(struct ind_device *device, uint64_t memory_len,
 /* Whatever is refused, and whatever limit was named, one device comes. */
 static void refused_making(uint64_t memory_len, uint32_t limit, uint32_t want)
 {
-    const struct ind_device empty = {.limit = 16384};
+    const struct ind_device empty = {.limit = 16384, .edition = 1};
     struct ind_device device;
 
     CHECK_EQ(make_with(&device, memory_len, limit), want);

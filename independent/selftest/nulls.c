@@ -115,6 +115,11 @@ static void fresh(void)
     CHECK_EQ(ind_fv_fresh_with(NULL, 0, windows, sizeof windows, 0, 1), 201);
     CHECK_EQ(ind_fv_fresh_with(image, sizeof image, NULL, 0, 0, 1), 203);
     CHECK_EQ(ind_fv_fresh_with(NULL, 0, NULL, 0, 0, 1), 201);
+    CHECK_EQ(ind_fv_fresh_edition_2(NULL, 0, windows, sizeof windows, 0, 1, 1),
+             201);
+    CHECK_EQ(ind_fv_fresh_edition_2(image, sizeof image, NULL, 0, 0, 1, 1),
+             203);
+    CHECK_EQ(ind_fv_fresh_edition_2(NULL, 0, NULL, 0, 0, 1, 1), 201);
 }
 
 void test_nulls(void)

@@ -196,6 +196,7 @@ int main(void)
     test_calls();
     test_limits();
     test_counts();
+    test_editions();
     test_kernels();
     test_replay();
     test_image();

@@ -199,6 +199,40 @@ void serve_unchanged(struct stage *stage, uint32_t outcome, uint32_t first,
     stage_free(before);
 }
 
+void push_outcome(struct stage *stage, uint32_t ring, uint32_t outcome,
+                  uint32_t flags)
+{
+    enum {
+        READ = 0x02, FILL = 0x10, RUN = 0x20, NOTHING = 0x22, FB = 0x30,
+        NO_OPCODE = 0xFF, EMIT = 2, PAYLOAD = 8
+    };
+    const uint32_t commands[IND_OUTCOMES][4] = {
+        {head(NOTHING, 0, 0, 0), 0, 0, 0}, {head(NO_OPCODE, 0, 0, 0), 0, 0, 0},
+        {head(NOTHING, 0x10, 0, 0), 0, 0, 0},
+        {head(NOTHING, PAYLOAD, 0, 0), 0, 0, 0},
+        {head(NOTHING, EMIT, IND_SLOTS, 0), 0, 0, 0},
+        {head(NOTHING, EMIT, FULL_SLOT, 0), 0, 0, 0},
+        {head(READ, 0, 0, 1), 2, 0, 0}, {head(FILL, 0, 0, 0), 0, 0, 0},
+        {head(READ, 0, 0, 1), 64, 0, 0}, {head(FB, 0, 0, 0), 0, 0, 0},
+        {head(RUN, 0, 0, 0), 0, 1, 0}, {head(RUN, 0, 0, 0), 1, 1, 0},
+        {head(RUN, 0, 0, 0), 1, 1, 0}, {head(RUN, 0, 0, 0), 1, 1, 0},
+        {head(RUN, 0, 0, 0), 1, 1, 0}
+    };
+    const uint32_t *words = commands[outcome];
+
+    push(stage, ring, words[0] | flags << 8, words[1], words[2], words[3]);
+}
+
+/* A kernel of one word that stops with this outcome, 11 to 14. */
+void pack_stop(struct stage *stage, uint32_t outcome)
+{
+    const uint32_t stops[] = {
+        0, MEMBAR, s_shape(2, 0, 0, -4), b_shape(0, 0, 0, 0)
+    };
+
+    pack_one(stage, &stops[outcome - IND_NOT_LISTED], 1);
+}
+
 void pack_one(struct stage *stage, const uint32_t *words, uint32_t count)
 {
     const uint32_t head_words[] = {1, 0, count, count};

@@ -85,6 +85,14 @@ uint32_t serve(struct stage *stage, uint32_t first, uint32_t arg0,
 void serve_unchanged(struct stage *stage, uint32_t outcome, uint32_t first,
                      uint32_t arg0, uint32_t arg1, uint32_t arg2);
 
+/* Pushes a command with this outcome and slot 0, these flags besides its own: 4
+ * has no slot, 5 needs FULL_SLOT full in edition 1, 6 to 8 windows of 64 bytes
+ * and no frame, 11 to 14 the kernel that pack_stop makes. */
+enum { FULL_SLOT = IND_SLOTS - 1 };
+void push_outcome(struct stage *stage, uint32_t ring, uint32_t outcome,
+                  uint32_t flags);
+void pack_stop(struct stage *stage, uint32_t outcome);
+
 /* A pack of one kernel that is all its code. */
 void pack_one(struct stage *stage, const uint32_t *words, uint32_t count);
 
@@ -95,6 +103,7 @@ void test_turns(void);
 void test_calls(void);
 void test_limits(void);
 void test_counts(void);
+void test_editions(void);
 void test_kernels(void);
 void test_replay(void);
 void test_image(void);

@@ -13,10 +13,19 @@
 
 enum {
     COMMANDS = 8,
+    MAKINGS = 3,
     ROW_WORDS = 4,
     STRIDE = WORD * ROW_WORDS,
     SOME = 4 * STRIDE,                /* bytes of memory */
     CHOICES = 1 << (PIECE_REPORT + 1) /* a bit for each piece of a turn */
+};
+
+static const struct calls archive = {
+    fv_fresh, fv_fresh_with, fv_fresh_edition_2, fv_turn
+};
+
+static const enum call_kind makings[MAKINGS] = {
+    CALL_FRESH, CALL_FRESH_WITH, CALL_FRESH_EDITION_2
 };
 
 static struct call *before, *pointed, *nulled, *wanted;
@@ -27,27 +36,32 @@ static void put_command(struct piece *ring, uint32_t which, uint32_t window)
 {
     const uint32_t words = window == 0 ? 0 : ROW_WORDS;
     const uint32_t row = words | 1u << 16, next = WORD * words;
+    const uint32_t flags = FLAG_EMIT | (which == 0 ? FLAG_PAYLOAD : 0);
     const uint32_t commands[COMMANDS][4] = {
-        { WRITE_MEM | FLAG_PAYLOAD << 8, 0, 0, 0 }, { READ_MEM, 0, 0, 0 },
+        { WRITE_MEM, 0, 0, 0 }, { READ_MEM, 0, 0, 0 },
         { FILL_RECT, 0, row, 0x00C03028 }, { BLIT, next, 0, row },
         { DISPATCH_1D, 1, 1, 0 }, { BARRIER, 0, 0, 0 },
         { COPY_BUFFER, next, 0, 0 }, { SET_FB, 0, STRIDE, 0 }
     };
 
-    piece_add_word(ring, commands[which][0] | words << 24);
+    piece_add_word(ring, commands[which][0] | flags << 8 | words << 24);
     for (int i = 1; i < 4; i++)
         piece_add_word(ring, commands[which][i]);
-    for (uint32_t i = 0; i < words && commands[which][0] >> 8 != 0; i++)
+    for (uint32_t i = 0; i < words && (flags & FLAG_PAYLOAD) != 0; i++)
         piece_add_word(ring, 0x01010101 * (i + 1));
 }
 
-/* Four equal rings, in windows that are empty or the whole memory. Counts of
- * commands that go round next, by any ring and by outcome 0. */
+/* Four equal rings, in windows that are empty or the whole memory. The fence
+ * that all emit goes round next, and so do counts of commands, by any ring and
+ * by outcome 0. */
 static void put_device(struct piece *image, uint32_t window)
 {
     const struct ind_frame frame = { window != 0, 0, STRIDE, 0 };
-    struct ind_device device = { .limit = IND_LIMIT_DEFAULT };
+    struct ind_device device = {
+        .limit = IND_LIMIT_DEFAULT, .edition = IND_EDITION_2
+    };
 
+    device.slots[0] = UINT32_MAX;
     for (int i = 0; i < IND_RINGS; i++) {
         device.rings[i].window_length = window;
         device.rings[i].frame = frame;
@@ -83,6 +97,15 @@ static void start_turn(uint32_t which, uint32_t window)
     piece_zeros(&pieces[PIECE_PIPE], IND_PIPE_LEAST);
 }
 
+static void start_making(enum call_kind kind)
+{
+    call_start(before, kind);
+    if (kind != CALL_FRESH)
+        put_word(before->pieces[PIECE_LIMIT].bytes, IND_LIMIT_MOST);
+    if (kind == CALL_FRESH_EDITION_2)
+        put_word(before->pieces[PIECE_FIRST].bytes, UINT32_MAX);
+}
+
 static void tell(uint32_t empty, const char *how, int piece)
 {
     different++;
@@ -106,9 +129,9 @@ static void compare(uint32_t empty)
     call_copy(wanted, before);
     before->nulls = 1;
     call_copy(nulled, before);
-    call_make(pointed, fv_fresh, fv_fresh_with, fv_turn);
-    call_make(nulled, fv_fresh, fv_fresh_with, fv_turn);
-    call_make(wanted, ind_fv_fresh, ind_fv_fresh_with, ind_fv_turn);
+    call_make(pointed, &archive);
+    call_make(nulled, &archive);
+    call_make(wanted, &independent);
     calls++;
     accepted += call_answer(wanted) == IND_SERVED; /* of a making: made */
     int as_null = call_difference(pointed, nulled);
@@ -125,10 +148,8 @@ static void compare_all(void)
         start_turn(choice / 2 % COMMANDS, choice % 2 == 0 ? 0 : SOME);
         compare(choice / 2 / COMMANDS);
     }
-    for (uint32_t choice = 0; choice < 8; choice++) {
-        call_start(before, choice < 4 ? CALL_FRESH : CALL_FRESH_WITH);
-        if (choice >= 4)
-            put_word(before->pieces[PIECE_LIMIT].bytes, IND_LIMIT_MOST);
+    for (uint32_t choice = 0; choice < 4 * MAKINGS; choice++) {
+        start_making(makings[choice / 4]);
         compare(choice / 2 % 2 << PIECE_DEVICE | choice % 2 << PIECE_WINDOWS);
     }
 }

@@ -2,13 +2,8 @@
  * With MUTANT it makes one error, which the comparison has to tell. */
 #include <string.h>
 
-#include "device/image.h"
-#include "device/parts.h"
+#include "whole/self.h"
 #include "whole/whole.h"
-
-#ifndef MUTANT
-#define MUTANT 0
-#endif
 
 /* Where words stand, in bytes. */
 enum {
@@ -27,13 +22,6 @@ enum {
     COUNTS_BYTES = WORD * IND_COUNTS,
     LAST_TAKEN = OUTCOMES - WORD,
     LAST_OUTCOME = TAKEN + COUNTS_BYTES - WORD
-};
-
-/* A turn's pieces, after it and its image before it. */
-struct turned {
-    uint8_t before[IND_IMAGE_BYTES], *device, *memory, *pipe, *report;
-    size_t memory_len, pipe_len;
-    uint32_t answer;
 };
 
 static void add(uint8_t *word, uint32_t more)
@@ -256,6 +244,7 @@ static void err_made(uint8_t *device, const uint8_t *before, uint32_t answer)
     /* the same where it is refused */
     if (MUTANT == 51 && answer != 0 && answer < IND_WRONG_IMAGE)
         memcpy(device + TAKEN, before + TAKEN, COUNTS_BYTES);
+    err_edition_1_made(device, answer);
 }
 
 uint32_t fv_fresh(uint8_t *device, size_t device_len, const uint8_t *windows,
@@ -347,6 +336,8 @@ static void err_turned(struct turned *t)
         err_unserved(t);
         err_uncounted(t);
     }
+    if (t->answer < IND_WRONG_IMAGE)
+        err_edition(t);
 }
 
 uint32_t fv_turn(uint8_t *device, size_t device_len, uint8_t *memory,
@@ -356,12 +347,14 @@ uint32_t fv_turn(uint8_t *device, size_t device_len, uint8_t *memory,
                  const uint8_t *pack, size_t pack_len, uint8_t *pipe,
                  size_t pipe_len, uint8_t *report, size_t report_len)
 {
+    const uint8_t *ring[IND_RINGS] = {ring0, ring1, ring2, ring3};
+    size_t ring_len[IND_RINGS] = {ring0_len, ring1_len, ring2_len, ring3_len};
     struct turned t = {
         {0}, device, memory, pipe, report, memory_len, pipe_len, 0
     };
 
     if (MUTANT == 20 && ring3 == NULL) /* refused as too long */
-        ring3_len = IND_RING_MOST + 1;
+        ring_len[3] = IND_RING_MOST + 1;
     if (MUTANT == 21 && memory_len == 0) /* read before its length is asked */
         (void)*(volatile uint8_t *)memory;
     if (MUTANT == 22 && pipe != NULL && pipe_len == 0)
@@ -370,14 +363,18 @@ uint32_t fv_turn(uint8_t *device, size_t device_len, uint8_t *memory,
         return IND_WRONG_REPORT; /* asked first */
     if (device_len == sizeof t.before)
         memcpy(t.before, device, sizeof t.before);
-    int misjudged = MUTANT >= 43 && MUTANT <= 48
-        && device_len == sizeof t.before && report_len == IND_REPORT_BYTES;
+    int right = device_len == sizeof t.before && report_len == IND_REPORT_BYTES;
+    int misjudged = MUTANT >= 43 && MUTANT <= 48 && right;
     if (misjudged)
         misjudge(device);
-    t.answer = ind_fv_turn(device, device_len, memory, memory_len, ring0,
-                           ring0_len, ring1, ring1_len, ring2, ring2_len,
-                           ring3, ring3_len, pack, pack_len, pipe, pipe_len,
-                           report, report_len);
+    if (right) {
+        misread_edition(device);
+        misjudge_waits(device, ring, ring_len);
+    }
+    t.answer = ind_fv_turn(device, device_len, memory, memory_len, ring[0],
+                           ring_len[0], ring[1], ring_len[1], ring[2],
+                           ring_len[2], ring[3], ring_len[3], pack, pack_len,
+                           pipe, pipe_len, report, report_len);
     if (misjudged)
         restore_counts(&t);
     err_turned(&t);

@@ -1,6 +1,6 @@
 /* whole COUNT SEED: random whole calls on the device of an archive (fv_fresh,
- * fv_fresh_with and fv_turn) and on the independent one; all they leave is
- * compared. */
+ * fv_fresh_with, fv_fresh_edition_2 and fv_turn) and on the independent one;
+ * all they leave is compared. */
 #include <inttypes.h>
 #include <stdio.h>
 
@@ -8,8 +8,11 @@
 #include "cases/number.h"
 #include "cases/share.h"
 #include "cases/tally.h"
-#include "device/image.h"
 #include "whole/whole.h"
+
+static const struct calls archive = {
+    fv_fresh, fv_fresh_with, fv_fresh_edition_2, fv_turn
+};
 
 static void tell(uint64_t seed, uint64_t number, int piece,
                  const struct call *got, const struct call *wanted)
@@ -43,8 +46,8 @@ int main(int argc, char **argv)
         before->nulls = n % 2 == 1;
         call_copy(got, before);
         call_copy(wanted, before);
-        call_make(got, fv_fresh, fv_fresh_with, fv_turn);
-        call_make(wanted, ind_fv_fresh, ind_fv_fresh_with, ind_fv_turn);
+        call_make(got, &archive);
+        call_make(wanted, &independent);
         tally_call(before, wanted);
         share_call(&share, wanted);
         int piece = call_difference(got, wanted);

@@ -1,4 +1,4 @@
-/* What the archive defines: image.h has the same three with a prefix. */
+/* What the archive defines: image.h has the same four with a prefix. */
 #ifndef WHOLE_H
 #define WHOLE_H
 
@@ -11,6 +11,11 @@ uint32_t fv_fresh(uint8_t *device, size_t device_len, const uint8_t *windows,
 uint32_t fv_fresh_with(uint8_t *device, size_t device_len,
                        const uint8_t *windows, size_t windows_len,
                        uint64_t memory_len, uint32_t limit);
+
+uint32_t fv_fresh_edition_2(uint8_t *device, size_t device_len,
+                            const uint8_t *windows, size_t windows_len,
+                            uint64_t memory_len, uint32_t limit,
+                            uint32_t first);
 
 uint32_t fv_turn(uint8_t *device, size_t device_len, uint8_t *memory,
                  size_t memory_len, const uint8_t *ring0, size_t ring0_len,

@@ -1,0 +1,31 @@
+/* What self.c and editions.c share: a turn in the archive's place. */
+#ifndef SELF_H
+#define SELF_H
+
+#include "device/image.h"
+#include "device/parts.h"
+
+#ifndef MUTANT
+#define MUTANT 0
+#endif
+
+/* A turn's pieces, after it and its image before it. */
+struct turned {
+    uint8_t before[IND_IMAGE_BYTES], *device, *memory, *pipe, *report;
+    size_t memory_len, pipe_len;
+    uint32_t answer;
+};
+
+/* Before a turn: the edition in the image, and the rings' heads, become what a
+ * wrong rule takes them for. */
+void misread_edition(uint8_t *image);
+void misjudge_waits(const uint8_t *image, const uint8_t *ring[IND_RINGS],
+                    size_t ring_len[IND_RINGS]);
+
+/* Errors of a turn, after it. */
+void err_edition(struct turned *t);
+
+/* Errors of a making of edition 1, after it. */
+void err_edition_1_made(uint8_t *device, uint32_t answer);
+
+#endif
