@@ -1,4 +1,4 @@
-/* Fioravispa for programs in C: the device's three calls, names for its numbers,
+/* Fioravispa for programs in C: the device's four calls, names for its numbers,
  * and small helpers that spell commands and read answers. docs/DEVICE.md is the
  * manual.
  *
@@ -22,14 +22,15 @@ enum {
     FV_RINGS = 4,
     FV_SLOTS = 64,
     FV_OUTCOMES = 15,             /* 0 to 14 */
-    FV_IMAGE_BYTES = 452,         /* 113 words: seven for each ring, the slots, the marker, the limit, the counts */
+    FV_IMAGE_BYTES = 456,         /* 114 words: seven for each ring, slots, marker, limit, counts, edition */
     FV_IMAGE_RING_WORDS = 7,      /* window start, window length, cursor, frame held, base, stride, format */
     FV_IMAGE_SLOTS_WORD = 28,     /* where the slots start */
     FV_IMAGE_MARKER_WORD = 92,
     FV_IMAGE_LIMIT_WORD = 93,
     FV_IMAGE_COMMANDS_WORD = 94,  /* commands taken, a word for each ring */
     FV_IMAGE_OUTCOMES_WORD = 98,  /* commands by outcome, a word for each */
-    FV_REPORT_BYTES = 24,         /* 6 words */
+    FV_IMAGE_EDITION_WORD = 113,
+    FV_REPORT_BYTES = 28,         /* 7 words */
     FV_WINDOWS_BYTES = 32,        /* four pairs: start, length */
     FV_MEMORY_MOST = 1048576,
     FV_RING_MOST = 65536,
@@ -51,19 +52,28 @@ enum {
     FV_PACK_MOST = 65672          /* two counts, 16 pairs and 16,384 words */
 };
 
-#define FV_SLOT_FULL 4294967295u  /* a slot that holds this takes no emit */
+#define FV_SLOT_FULL 4294967295u  /* a slot that holds this: in edition 1 takes no emit, in edition 2 goes to 0 */
+#define FV_MET_BELOW 2147483648u  /* edition 2: a slot that is fewer than this past a target meets it */
+
+/* The protocol's edition, chosen when a device is made. They differ in what slots do:
+ * in edition 1 numbers end at FV_SLOT_FULL, in edition 2 they go round to 0. */
+enum {
+    FV_EDITION_1 = 1,
+    FV_EDITION_2 = 2
+};
 
 /* ---- what a call answers ---- */
 
 enum {
-    FV_MADE = 0,                  /* fv_fresh, fv_fresh_with: the device is made */
+    FV_MADE = 0,                  /* fv_fresh, fv_fresh_with, fv_fresh_edition_2: the device is made */
     FV_SERVED = 0,                /* fv_turn: one command was taken; the report tells of it */
     FV_IDLE = 1,                  /* fv_turn: no ring is ready; image, memory and pipe are as they were */
 
     /* The whole call is refused, for the first of these that applies. After fv_turn
      * image, memory and pipe are as they were. fv_fresh can give 101 alone, and
-     * fv_fresh_with also 102 for its limit; with either number they write a fresh
-     * device of four empty windows at 0 whose limit is FV_LIMIT_DEFAULT. */
+     * fv_fresh_with and fv_fresh_edition_2 also 102 for their limit; with either number
+     * they write a fresh device of four empty windows at 0 whose limit is
+     * FV_LIMIT_DEFAULT, of edition 1. */
     FV_REFUSED_MEMORY = 101,      /* memory too long, or a window outside it or not in multiples of 4 */
     FV_REFUSED_STATE = 102,       /* marker above 3, limit outside FV_LIMIT_LEAST to FV_LIMIT_MOST, cursor above
                                    * FV_RING_MOST, a held frame SET_FB would refuse, or counts of commands and
@@ -89,7 +99,7 @@ enum {
     FV_OUTCOME_FLAGS = 2,         /* a reserved flag is set */
     FV_OUTCOME_PAYLOAD = 3,       /* WRITE_MEM without the payload flag, or another command with it */
     FV_OUTCOME_SLOT = 4,          /* emit or wait set and rdst above 63 */
-    FV_OUTCOME_FULL = 5,          /* emit set and the slot holds 4,294,967,295 */
+    FV_OUTCOME_FULL = 5,          /* edition 1: emit set and the slot holds FV_SLOT_FULL; never in edition 2 */
     FV_OUTCOME_UNALIGNED = 6,     /* an address, or SET_FB's base or stride, not a multiple of 4 */
     FV_OUTCOME_FRAME = 7,         /* FILL or BLIT with no frame; or, width and height nonzero,
                                    * 4 * width above the stride */
@@ -118,8 +128,10 @@ enum {
 
 /* An emit adds 1 to slot rdst after the work, with outcome 0 or 6 to 14: a command
  * that fails with 6 to 14 still signals, one that fails with 1 to 5 does not.
- * A wait keeps its ring from being ready until slot rdst holds at least the target;
- * a command with a faulty header (outcome 1 to 4) does not wait. */
+ * A wait keeps its ring from being ready until slot rdst meets the target: in
+ * edition 1 if it holds at least the target, in edition 2 if it is fewer than
+ * FV_MET_BELOW past it, round the wrap (fv_is_met). A command with a faulty header
+ * (outcome 1 to 4) does not wait. */
 enum {
     FV_FLAG_IRQ = 1,              /* the report tells it, unless the outcome is 1 to 4 */
     FV_FLAG_EMIT = 2,
@@ -132,8 +144,8 @@ enum {
  * No byte of it is read or written, so a ring that is not used can stay {0}. A piece
  * that a call changes may overlap no other. */
 
-/* Puts a fresh device into an image: slots, cursors, marker and counts 0, frames
- * unset, the limit FV_LIMIT_DEFAULT.
+/* Puts a fresh device of edition 1 into an image: slots, cursors, marker and counts 0,
+ * frames unset, the limit FV_LIMIT_DEFAULT.
  *   image          FV_IMAGE_BYTES; what it held does not matter
  *   windows        FV_WINDOWS_BYTES: start and length for each ring, in multiples of 4
  *   memory_length  of the memory that the turns will lend
@@ -142,7 +154,7 @@ enum {
 uint32_t fv_fresh(uint8_t *image, size_t image_length, const uint8_t *windows, size_t windows_length,
                   uint64_t memory_length);
 
-/* The same with a limit that is named.
+/* The same with a limit that is named, of edition 1 too.
  *   limit          the steps that a thread of a kernel may take, FV_LIMIT_LEAST to FV_LIMIT_MOST
  * The device keeps it: no turn changes it. Gives what fv_fresh gives; and, where that
  * would be FV_MADE, FV_REFUSED_STATE for a limit outside these. With either refusal
@@ -150,6 +162,13 @@ uint32_t fv_fresh(uint8_t *image, size_t image_length, const uint8_t *windows, s
  * named. */
 uint32_t fv_fresh_with(uint8_t *image, size_t image_length, const uint8_t *windows, size_t windows_length,
                        uint64_t memory_length, uint32_t limit);
+
+/* The same of edition 2, with the number that its slots start with.
+ *   first          what each of the FV_SLOTS slots holds at first; any number
+ * The device keeps its edition: no turn changes it. Gives what fv_fresh_with gives, and
+ * with a refusal the same device, which is of edition 1 with slots of 0. */
+uint32_t fv_fresh_edition_2(uint8_t *image, size_t image_length, const uint8_t *windows, size_t windows_length,
+                            uint64_t memory_length, uint32_t limit, uint32_t first);
 
 /* One turn: the first ready ring from the marker upward has its command taken.
  *   image    the device; only a served turn changes it
@@ -255,6 +274,18 @@ static inline uint32_t fv_image_outcomes(const uint8_t *image, uint32_t outcome)
     return fv_word(image, FV_IMAGE_OUTCOMES_WORD + outcome);
 }
 
+/* FV_EDITION_1 or FV_EDITION_2: any word but 2 stands for edition 1. */
+static inline uint32_t fv_image_edition(const uint8_t *image)
+{
+    return fv_word(image, FV_IMAGE_EDITION_WORD) == FV_EDITION_2 ? FV_EDITION_2 : FV_EDITION_1;
+}
+
+/* 1 if a slot that holds this number meets the target by the rule of this edition, else 0. */
+static inline int fv_is_met(uint32_t edition, uint32_t slot, uint32_t target)
+{
+    return edition == FV_EDITION_2 ? (uint32_t)(slot - target) < FV_MET_BELOW : slot >= target;
+}
+
 struct fv_frame {
     uint32_t held;                /* 0: the ring has no frame */
     uint32_t base, stride, format;
@@ -273,15 +304,16 @@ struct fv_report {
     uint32_t status;              /* FV_SERVED, FV_IDLE or a refusal; with the latter two all else is 0 */
     uint32_t ring;                /* whose command was taken */
     uint32_t outcome;
-    uint32_t fence;               /* what an emit raised its slot to, else 0 */
+    uint32_t fence;               /* what an emit left in its slot, else 0; in edition 2 that can be 0 too */
     uint32_t words_read;          /* len of a READ_MEM with outcome 0, else 0 */
     uint32_t irq;                 /* 1 or 0 */
+    uint32_t emitted;             /* 1 if the command emitted a fence, else 0, in both editions */
 };
 
 static inline struct fv_report fv_read_report(const uint8_t *bytes)
 {
     struct fv_report report = {fv_word(bytes, 0), fv_word(bytes, 1), fv_word(bytes, 2),
-                               fv_word(bytes, 3), fv_word(bytes, 4), fv_word(bytes, 5)};
+                               fv_word(bytes, 3), fv_word(bytes, 4), fv_word(bytes, 5), fv_word(bytes, 6)};
     return report;
 }
 
@@ -380,7 +412,9 @@ static inline int fv_append(struct fv_ring *ring, const struct fv_command *comma
     return 1;
 }
 
-/* What a command does besides its work. One slot serves both wait and emit. */
+/* What a command does besides its work, in either edition: the device's own decides when a
+ * target is met, and whether a slot takes an emit at FV_SLOT_FULL. One slot serves both wait
+ * and emit. */
 struct fv_sync {
     uint32_t flags;               /* FV_FLAG_IRQ, FV_FLAG_EMIT, FV_FLAG_WAIT */
     uint32_t rdst;                /* the slot */
@@ -393,12 +427,14 @@ static inline struct fv_sync fv_none(void)
     return sync;
 }
 
+/* Adds 1 to the slot; from FV_SLOT_FULL edition 2 goes to 0, and edition 1 gives FV_OUTCOME_FULL. */
 static inline struct fv_sync fv_emit(uint32_t slot)
 {
     struct fv_sync sync = {FV_FLAG_EMIT, slot, 0};
     return sync;
 }
 
+/* Until the slot holds at least the target (edition 1), or is fewer than FV_MET_BELOW past it (edition 2). */
 static inline struct fv_sync fv_wait(uint32_t slot, uint32_t target)
 {
     struct fv_sync sync = {FV_FLAG_WAIT, slot, target};
