@@ -52,11 +52,12 @@ enum {
     FV_PACK_MOST = 65672          /* two counts, 16 pairs and 16,384 words */
 };
 
-#define FV_SLOT_FULL 4294967295u  /* a slot that holds this: in edition 1 takes no emit, in edition 2 goes to 0 */
-#define FV_MET_BELOW 2147483648u  /* edition 2: a slot that is fewer than this past a target meets it */
+#define FV_SLOT_FULL 4294967295u  /* a slot that holds this takes no emit in edition 1; in edition 2 an emit leaves 0 */
+#define FV_MET_BELOW 2147483648u  /* edition 2: a wait is met if slot - target, modulo 2^32, is below this */
 
-/* The protocol's edition, chosen when a device is made. They differ in what slots do:
- * in edition 1 numbers end at FV_SLOT_FULL, in edition 2 they go round to 0. */
+/* The protocol's edition, chosen when a device is made. The editions differ in their
+ * slots alone: in edition 1 numbers end at FV_SLOT_FULL, in edition 2 they go round to
+ * 0; and a wait is met by another rule (fv_is_met). */
 enum {
     FV_EDITION_1 = 1,
     FV_EDITION_2 = 2
@@ -73,7 +74,7 @@ enum {
      * image, memory and pipe are as they were. fv_fresh can give 101 alone, and
      * fv_fresh_with and fv_fresh_edition_2 also 102 for their limit; with either number
      * they write a fresh device of four empty windows at 0 whose limit is
-     * FV_LIMIT_DEFAULT, of edition 1. */
+     * FV_LIMIT_DEFAULT, of edition 1 with slots of 0. */
     FV_REFUSED_MEMORY = 101,      /* memory too long, or a window outside it or not in multiples of 4 */
     FV_REFUSED_STATE = 102,       /* marker above 3, limit outside FV_LIMIT_LEAST to FV_LIMIT_MOST, cursor above
                                    * FV_RING_MOST, a held frame SET_FB would refuse, or counts of commands and
@@ -129,8 +130,8 @@ enum {
 /* An emit adds 1 to slot rdst after the work, with outcome 0 or 6 to 14: a command
  * that fails with 6 to 14 still signals, one that fails with 1 to 5 does not.
  * A wait keeps its ring from being ready until slot rdst meets the target: in
- * edition 1 if it holds at least the target, in edition 2 if it is fewer than
- * FV_MET_BELOW past it, round the wrap (fv_is_met). A command with a faulty header
+ * edition 1 if it holds at least the target, in edition 2 if it is less than
+ * FV_MET_BELOW past it, modulo 2^32 (fv_is_met). A command with a faulty header
  * (outcome 1 to 4) does not wait. */
 enum {
     FV_FLAG_IRQ = 1,              /* the report tells it, unless the outcome is 1 to 4 */
@@ -163,7 +164,8 @@ uint32_t fv_fresh(uint8_t *image, size_t image_length, const uint8_t *windows, s
 uint32_t fv_fresh_with(uint8_t *image, size_t image_length, const uint8_t *windows, size_t windows_length,
                        uint64_t memory_length, uint32_t limit);
 
-/* The same of edition 2, with the number that its slots start with.
+/* The same as fv_fresh_with, but of edition 2: the number that all slots start with is
+ * named too.
  *   first          what each of the FV_SLOTS slots holds at first; any number
  * The device keeps its edition: no turn changes it. Gives what fv_fresh_with gives, and
  * with a refusal the same device, which is of edition 1 with slots of 0. */
@@ -280,7 +282,8 @@ static inline uint32_t fv_image_edition(const uint8_t *image)
     return fv_word(image, FV_IMAGE_EDITION_WORD) == FV_EDITION_2 ? FV_EDITION_2 : FV_EDITION_1;
 }
 
-/* 1 if a slot that holds this number meets the target by the rule of this edition, else 0. */
+/* 1 if a slot that holds this number meets the target, else 0. The edition is
+ * FV_EDITION_2, or any other number for edition 1: see fv_image_edition. */
 static inline int fv_is_met(uint32_t edition, uint32_t slot, uint32_t target)
 {
     return edition == FV_EDITION_2 ? (uint32_t)(slot - target) < FV_MET_BELOW : slot >= target;
@@ -304,7 +307,7 @@ struct fv_report {
     uint32_t status;              /* FV_SERVED, FV_IDLE or a refusal; with the latter two all else is 0 */
     uint32_t ring;                /* whose command was taken */
     uint32_t outcome;
-    uint32_t fence;               /* what an emit left in its slot, else 0; in edition 2 that can be 0 too */
+    uint32_t fence;               /* what an emit left in its slot, in edition 2 perhaps 0; else 0: ask emitted */
     uint32_t words_read;          /* len of a READ_MEM with outcome 0, else 0 */
     uint32_t irq;                 /* 1 or 0 */
     uint32_t emitted;             /* 1 if the command emitted a fence, else 0, in both editions */
@@ -412,9 +415,9 @@ static inline int fv_append(struct fv_ring *ring, const struct fv_command *comma
     return 1;
 }
 
-/* What a command does besides its work, in either edition: the device's own decides when a
- * target is met, and whether a slot takes an emit at FV_SLOT_FULL. One slot serves both wait
- * and emit. */
+/* What a command does besides its work, in either edition: the device's edition decides
+ * when a target is met, and whether a slot takes an emit at FV_SLOT_FULL. One slot serves
+ * both wait and emit. */
 struct fv_sync {
     uint32_t flags;               /* FV_FLAG_IRQ, FV_FLAG_EMIT, FV_FLAG_WAIT */
     uint32_t rdst;                /* the slot */
@@ -434,7 +437,7 @@ static inline struct fv_sync fv_emit(uint32_t slot)
     return sync;
 }
 
-/* Until the slot holds at least the target (edition 1), or is fewer than FV_MET_BELOW past it (edition 2). */
+/* Waits until the slot meets the target by the device's edition: see fv_is_met. */
 static inline struct fv_sync fv_wait(uint32_t slot, uint32_t target)
 {
     struct fv_sync sync = {FV_FLAG_WAIT, slot, target};

@@ -1,5 +1,6 @@
 /* Fence numbers that go round: a device of edition 2 whose slots start at 4,294,967,294. Ring 0 emits three times, by
- * 4,294,967,295 and 0 to 1. Ring 1 waits for 1, and is served after the third emit and not before. */
+ * 4,294,967,295 and 0 to 1. Ring 1 waits for 1, and is served after the third emit and not before. By edition 1's rule its wait
+ * would be met at once: 4,294,967,294 is at least 1. */
 #include <stdio.h>
 #include "fioravispa.h"
 
@@ -13,7 +14,7 @@ static const struct fv_report expected[] = {
     {.status = FV_SERVED, .ring = 0, .fence = 4294967295u, .emitted = 1},
     {.status = FV_SERVED, .ring = 0, .fence = 0, .emitted = 1},  /* a fence of 0, and one was emitted */
     {.status = FV_SERVED, .ring = 0, .fence = 1, .emitted = 1},
-    {.status = FV_SERVED, .ring = 1, .fence = 0, .emitted = 0},  /* the wait: none was */
+    {.status = FV_SERVED, .ring = 1, .fence = 0, .emitted = 0},  /* a fence of 0, and none was */
     {.status = FV_IDLE},
 };
 
@@ -23,7 +24,7 @@ static int same(const struct fv_report *a, const struct fv_report *b)
            && a->words_read == b->words_read && a->irq == b->irq && a->emitted == b->emitted;
 }
 
-/* Turns until idle; gives how many of the reports, from the first on, are as expected. */
+/* A turn for each report that is expected, up to the first that differs; gives how many were right. */
 static size_t play(const struct fv_lent *lent)
 {
     const size_t count = sizeof expected / sizeof *expected;
@@ -33,7 +34,7 @@ static size_t play(const struct fv_lent *lent)
         uint32_t slot = fv_image_slot(image, SLOT);
         struct fv_report report;
 
-        printf("slot %u holds %u: the wait for %u is %s\n", SLOT, slot, TARGET,
+        printf("slot %d holds %u: a wait for %d is %s\n", SLOT, slot, TARGET,
                fv_is_met(fv_image_edition(image), slot, TARGET) ? "met" : "not met");
         report = fv_turn_by(fv_turn, image, lent);
         if (report.status == FV_SERVED)

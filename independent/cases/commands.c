@@ -241,7 +241,8 @@ static uint32_t met_target(struct scene *s, uint32_t slot)
     return holds - below(s->c, lesser(holds, 3) + 1);
 }
 
-/* One that is not: a little more than a slot that is not full holds. */
+/* One that is not met: a little more than the slot holds, which is not full, or
+ * an edge. */
 static uint32_t unmet_target(struct scene *s, uint32_t slot)
 {
     uint32_t holds = s->device.slots[slot];

@@ -9,8 +9,8 @@
 /* A command for this ring that waits for nothing that is not there. */
 struct ind_command draw_command(struct scene *s, uint32_t ring, int opcode);
 
-/* Makes it wait for what its slot does not meet; 0 if none can, as all slots
- * are full in edition 1. */
+/* Makes it wait for what its slot does not meet; 0 if no slot can: all are
+ * full, in edition 1. */
 int make_wait(struct scene *s, struct ind_command *command);
 
 /* Gives it one or more faults of its header. */

@@ -28,7 +28,7 @@ static void roughen_frames(struct call *call, struct chance *c)
 }
 
 /* Any other number than 1 and 2 for the edition: it counts as 1, and a served
- * turn writes that. Most where the edition shows. */
+ * turn writes that. */
 static void roughen_edition(struct call *call, struct chance *c)
 {
     put_word(image_word(call, 0, IND_IMAGE_EDITION), odd_edition(c));
@@ -213,7 +213,7 @@ void draw_edged(struct call *call, struct chance *c)
     if (mille(c, 250))
         roughen_frames(call, c);
     if (mille(c, s.full != ANY || s.waits != ANY ? 350 : 60))
-        roughen_edition(call, c);
+        roughen_edition(call, c); /* most where the edition shows */
     if (way >= 2 && way < 12)
         move_cursor(call, c);
     else if (way >= 12 && way < 43)

@@ -32,17 +32,18 @@ uint32_t first_number(struct chance *c)
     return mille(c, 700) ? edged_number(c) : edge_word(c);
 }
 
+const uint32_t aparts[APARTS] = {
+    0, 1, HALF_RANGE - 2, HALF_RANGE - 1, HALF_RANGE, HALF_RANGE + 1,
+    UINT32_MAX - 1, UINT32_MAX
+};
+
 uint32_t edged_target(struct chance *c, const struct ind_device *device,
                       uint32_t slot, int met)
 {
-    static const uint32_t apart[8] = {
-        0, 1, HALF_RANGE - 2, HALF_RANGE - 1, HALF_RANGE, HALF_RANGE + 1,
-        UINT32_MAX - 1, UINT32_MAX
-    };
-    uint32_t targets[8], fit = 0;
+    uint32_t targets[APARTS], fit = 0;
 
-    for (uint32_t i = 0; i < 8; i++) {
-        targets[fit] = device->slots[slot] - apart[i];
+    for (uint32_t i = 0; i < APARTS; i++) {
+        targets[fit] = device->slots[slot] - aparts[i];
         fit += ind_slot_met(device, slot, targets[fit]) == met;
     }
     return fit != 0 ? targets[below(c, fit)] : device->slots[slot];

@@ -5,14 +5,10 @@
 #include "device/image.h"
 #include "device/parts.h"
 
-enum { EDITIONS = 2, APARTS = 8, HALF_APARTS = 4, FIRSTS = 4 };
+enum { EDITIONS = 2, HALF_APARTS = 4, FIRSTS = 4 };
 
-/* By how much a slot is past a target, as a 32-bit number; and starting
- * numbers. Each is counted by spans, up to one of these. */
-static const uint32_t aparts[APARTS] = {
-    0, 1, HALF_RANGE - 2, HALF_RANGE - 1, HALF_RANGE, HALF_RANGE + 1,
-    UINT32_MAX - 1, UINT32_MAX
-};
+/* Waits are counted by spans of how much the slot is past the target, up to one
+ * of `aparts`; starting numbers by spans up to one of these. */
 static const uint32_t firsts[FIRSTS] = {
     0, HALF_RANGE - 1, UINT32_MAX - 1, UINT32_MAX
 };

@@ -104,8 +104,8 @@ static int wants_frame(const struct scene *s, uint32_t ring)
     return ring == s->lead && (s->opcode == FILL_RECT || s->opcode == BLIT);
 }
 
-/* In so many of 1,000 scenes most slots in use lie at an edge. In edition 2 a
- * full slot keeps no command from its work. */
+/* In so many of 1,000 scenes most slots in use lie at an edge. More in edition
+ * 2: there a full slot keeps no command from its work. */
 static uint32_t edged_scenes(const struct scene *s)
 {
     if (s->waits != ANY)

@@ -125,6 +125,8 @@ void ind_count(struct ind_device *device, uint32_t ring, uint32_t outcome);
 
 /* ---- slots.c: the slots of either edition ---- */
 
+#define HALF_RANGE 0x80000000u /* 2,147,483,648: half of all numbers */
+
 int ind_slot_met(const struct ind_device *device, uint32_t slot,
                  uint32_t target);
 int ind_slot_full(const struct ind_device *device, uint32_t slot);

@@ -2,8 +2,6 @@
  * and its next number. */
 #include "parts.h"
 
-#define HALF_RANGE 0x80000000u /* 2,147,483,648: half of all numbers */
-
 /* Any other number than 2 is edition 1. */
 static int goes_round(const struct ind_device *device)
 {

@@ -156,7 +156,7 @@ static int signals(uint32_t outcome)
     return outcome == 0 || outcome >= 6;
 }
 
-/* A command with each outcome, with the emit bit and without, whose slot holds
+/* A command with this outcome and these flags, all slots but the full one at
  * this number; gives the stage after it. */
 static struct stage *served(uint32_t edition, uint32_t number,
                             uint32_t outcome, uint32_t flags)
@@ -302,8 +302,8 @@ static const uint8_t emits[HEADER] = {BARRIER, EMIT, 0};
 
 /* A turn with one word of the image changed is not served: it leaves all of the
  * image, and tells nothing else. */
-static void left(const uint8_t *image, uint32_t at, uint32_t word, size_t ring_len,
-                 uint32_t status)
+static void left(const uint8_t *image, uint32_t at, uint32_t word,
+                 size_t ring_len, uint32_t status)
 {
     const uint8_t none[IND_REPORT_BYTES] = {0};
     uint8_t changed[IND_IMAGE_BYTES], kept[IND_IMAGE_BYTES];

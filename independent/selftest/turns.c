@@ -25,7 +25,8 @@ static void whole_commands(uint32_t opcode, uint32_t flags, size_t size)
     stage_free(stage);
 }
 
-/* The slot must be at least the target; 2^31 and above are large numbers. */
+/* In edition 1 the slot must be at least the target; 2^31 and above are large
+ * numbers. */
 static void waiting(void)
 {
     struct stage *stage = stage_new(0);

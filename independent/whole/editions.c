@@ -15,8 +15,6 @@ enum {
     EDITION = WORD * IND_IMAGE_EDITION
 };
 
-#define HALF_RANGE 0x80000000u
-
 static uint32_t edition_of(const uint8_t *image)
 {
     return ind_get(image + EDITION, WORD);
