@@ -284,18 +284,12 @@ static void rings_over_the_end(uint32_t first)
 
 /* ---- the image and the report ---- */
 
-/* A turn on bytes: four times the same ring. */
 static uint32_t turn(uint8_t *image, const uint8_t *ring, size_t ring_len,
                      size_t pipe_len, uint8_t *report)
 {
-    static const uint8_t pack[IND_PACK_LEAST];
-    uint8_t memory[LENGTH] = {0}, pipe[IND_PIPE_LEAST] = {0};
-
     memset(report, 0xEE, IND_REPORT_BYTES);
-    return ind_fv_turn(image, IND_IMAGE_BYTES, memory, sizeof memory, ring,
-                       ring_len, ring, ring_len, ring, ring_len, ring, ring_len,
-                       pack, sizeof pack, pipe, pipe_len, report,
-                       IND_REPORT_BYTES);
+    return turn_on_bytes(image, IND_IMAGE_BYTES, ring, ring_len, pipe_len,
+                         report, IND_REPORT_BYTES);
 }
 
 static const uint8_t emits[HEADER] = {BARRIER, EMIT, 0};

@@ -19,16 +19,11 @@ enum {
     EDITION = 4 * IND_IMAGE_EDITION
 };
 
-/* A turn on bytes: four times the same ring, and an empty pack. */
 static uint32_t turn(uint8_t *image, size_t image_len, const uint8_t *ring,
                      size_t ring_len, uint8_t *report, size_t report_len)
 {
-    static const uint8_t pack[IND_PACK_LEAST];
-    uint8_t memory[64] = {0}, pipe[IND_PIPE_LEAST] = {0};
-
-    return ind_fv_turn(image, image_len, memory, sizeof memory, ring, ring_len,
-                       ring, ring_len, ring, ring_len, ring, ring_len, pack,
-                       sizeof pack, pipe, sizeof pipe, report, report_len);
+    return turn_on_bytes(image, image_len, ring, ring_len, IND_PIPE_LEAST,
+                         report, report_len);
 }
 
 static void fresh_image(uint8_t *image)

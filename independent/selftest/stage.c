@@ -6,6 +6,8 @@
 #include <stdlib.h>
 #include <string.h>
 
+#include "device/image.h"
+
 void check_equal(uint64_t got, uint64_t want, const char *what,
                  const char *file, int line)
 {
@@ -231,6 +233,18 @@ void pack_stop(struct stage *stage, uint32_t outcome)
     };
 
     pack_one(stage, &stops[outcome - IND_NOT_LISTED], 1);
+}
+
+uint32_t turn_on_bytes(uint8_t *image, size_t image_len, const uint8_t *ring,
+                       size_t ring_len, size_t pipe_len, uint8_t *report,
+                       size_t report_len)
+{
+    static const uint8_t pack[IND_PACK_LEAST];
+    uint8_t memory[64] = {0}, pipe[IND_PIPE_LEAST] = {0};
+
+    return ind_fv_turn(image, image_len, memory, sizeof memory, ring, ring_len,
+                       ring, ring_len, ring, ring_len, ring, ring_len, pack,
+                       sizeof pack, pipe, pipe_len, report, report_len);
 }
 
 void pack_one(struct stage *stage, const uint32_t *words, uint32_t count)

@@ -93,6 +93,12 @@ void push_outcome(struct stage *stage, uint32_t ring, uint32_t outcome,
                   uint32_t flags);
 void pack_stop(struct stage *stage, uint32_t outcome);
 
+/* A turn on bytes: four times the same ring, 64 bytes of memory, an empty
+ * pack. */
+uint32_t turn_on_bytes(uint8_t *image, size_t image_len, const uint8_t *ring,
+                       size_t ring_len, size_t pipe_len, uint8_t *report,
+                       size_t report_len);
+
 /* A pack of one kernel that is all its code. */
 void pack_one(struct stage *stage, const uint32_t *words, uint32_t count);
 

@@ -12,7 +12,7 @@ use Rattle.demands.specs.Targets.{NearByDifference, NothingAsked}
 use Rattle.demands.specs.Idle.{IdleIsDone}
 use Rattle.demands.specs.EachStep.{EachStep}
 use Rattle.demands.specs.OneAnswer.{OneAnswer}
-use Rattle.demands.specs.Table.{Table, LeastLimit, RoundTheWrap}
+use Rattle.demands.specs.Table.{Table, LeastLimit, RoundTheWrap, ReadyNoLonger}
 use Rattle.demands.proofs.FourTurns as four
 use Rattle.demands.proofs.Rising as rising
 use Rattle.demands.proofs.Keeps as keeps
@@ -121,3 +121,6 @@ least-limit = worked.least-limit
 
 pub round-the-wrap : RoundTheWrap
 round-the-wrap = worked.round-the-wrap
+
+pub ready-no-longer : ReadyNoLonger
+ready-no-longer = worked.ready-no-longer

@@ -16,7 +16,7 @@ use Rattle.device.specs.Answer.{valuesOf}
 use Rattle.device.specs.Turn.{Call, unchanged, fenceOf, deviceAfter, finished, reportOf, servedOf}
 use Rattle.device.proofs.Turns.{turn-cases}
 use Rattle.demands.specs.Calls.{headIn, valuesIn}
-use Rattle.demands.specs.RingCommands.{isEmitting}
+use Rattle.demands.specs.EmitsAndWaits.{isEmitting}
 use Rattle.demands.specs.Editions.{Editions, TurnEditions}
 use Rattle.demands.proofs.Turns.{workIn, served-has}
 use Rattle.demands.proofs.Works.{full-1, free-2, full-slot-stays, emits-when-sound, five-full}

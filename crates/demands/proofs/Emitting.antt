@@ -16,7 +16,7 @@ use Rattle.command.specs.Outcome.{isDone}
 use Rattle.work.specs.Perform.{performedOf}
 use Rattle.command.specs.Report.{emits}
 use Rattle.words.proofs.Choices.{both-left, both-right, not-held}
-use Rattle.demands.specs.RingCommands.{isEmitting, isWaiting}
+use Rattle.demands.specs.EmitsAndWaits.{isEmitting, isWaiting}
 use Rattle.demands.proofs.Works.{full-slot-stays, emits-when-sound}
 
 -- no header fault: the slot's number is not too large

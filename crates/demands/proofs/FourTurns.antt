@@ -27,7 +27,8 @@ use Rattle.command.proofs.Sizes.{whole-inside}
 use Rattle.device.proofs.Shapes.{after-edition}
 use Rattle.device.proofs.Untaken.{other-ring}
 use Rattle.demands.specs.Calls.{headIn, answerOf, leftBy, lastOf, isRefused, ServesRing, heard, EachHeard, none, more, Serves, here, later}
-use Rattle.demands.specs.RingCommands.{placeOf, isWaiting}
+use Rattle.demands.specs.RingCommands.{placeOf}
+use Rattle.demands.specs.EmitsAndWaits.{isWaiting}
 use Rattle.demands.specs.Targets.{NearStart, TargetsNear}
 use Rattle.demands.specs.Bounded.{Lends}
 use Rattle.demands.specs.Idle.{countOf, oneMore}

@@ -12,7 +12,8 @@ use borrow.Author.Tests.{eq-eqb, ne-eqb}
 use Rattle.command.specs.declared.header.Command.{Command}
 use Rattle.command.proofs.Sizes.{size-least}
 use Rattle.device.specs.Untaken.{sumOf}
-use Rattle.demands.specs.RingCommands.{placeOf, nth, isEmitting}
+use Rattle.demands.specs.RingCommands.{placeOf, nth}
+use Rattle.demands.specs.EmitsAndWaits.{isEmitting}
 use Rattle.demands.specs.Idle.{emitsIn, countOf, oneMore}
 use Rattle.demands.proofs.Sums.{sum-grows, sum-most}
 

@@ -16,7 +16,7 @@ use Rattle.state.specs.declared.edition.Start.the-variants.{Edition1, Edition2}
 use Rattle.state.specs.Edition.{editionOf, firstOf}
 use Rattle.state.specs.Slots.{isMet, isFull, emitted}
 use Rattle.state.specs.Ready.{readyWith}
-use Rattle.demands.specs.RingCommands.{isWaiting}
+use Rattle.demands.specs.EmitsAndWaits.{isWaiting}
 use Rattle.demands.specs.Targets.{NearByDifference, NearStart, TargetsNear, NothingAsked}
 
 -- a ready command stays ready if its wait, where it waits, stays met

@@ -20,7 +20,7 @@ use Rattle.kernel.specs.Run.{ifRunning, stepMore, running, stepsOf, runOf}
 use Rattle.kernel.specs.Dispatch.{ranOf, shown, ifDone, threadOf, threadMore, threadsOf, dispatchOf}
 use Rattle.kernel.proofs.Examples as kernel
 use Rattle.kernel.specs.Examples.{afterWord, packOf}
-use Rattle.demands.specs.Table.{framedUnder, colored, OutcomeOn0, oneThread, holding, vector, Table, LeastLimit, RoundTheWrap}
+use Rattle.demands.specs.Table.{framedUnder, colored, OutcomeOn0, oneThread, holding, vector, Table, LeastLimit, RoundTheWrap, ReadyNoLonger}
 use Rattle.state.specs.Device.{defaultLimit, freshDevice, ringOf, slotOf, withRing, withSlots, withMarker, withCounts}
 use Rattle.state.specs.PlusOne.{plusOneAt}
 use Rattle.state.specs.Counts.{counted, total, balanced}
@@ -57,8 +57,8 @@ unfolding dispatchOf threadsOf threadMore ifDone threadOf shown ranOf runOf step
 least = (refl, refl, refl)
 
 -- all at once, since they open the same definitions
-worked : Table × LeastLimit × RoundTheWrap
-unfolding RoundTheWrap valuesOf colored freshDevice ringOf slotOf withRing withSlots plusOneAt withMarker withCounts counted total balanced windowFits memoryFits windowsFit ringSound limitFits stateSound ringFits ringsFit verdictOf readyWith readyWhere readyAt nextRing seek bytesOfRing pickOf unchanged fenceOf emitTo ringAfter deviceAfter reportOf finished servedOf pickedOf judgedOf verdictOn turnOf rowOf waitSize payloadSize targetAt commandAt isWhole unknownOpcode wrongPayloadBit noSuchSlot headerFault frameMisaligned frameUnfit frameFault heldFault isRectangle sizeOf widthOf heightOf tooNarrow endOf slotFault misaligned unframed outside unfitFrame outOfRange unfitDispatch checkOf emits interrupts wordsRead leaves ranOutcome dispatchedBy afterDispatch heldBy workOf orElse faultOf guarded performedOf after halfAt wordAt withByte withHalf withWord rectangleEnd filledRow filled windowOf putBack kernelCount firstWord kernelWords codeCount liesInCode allBelow soundPack kernelOf
+worked : Table × LeastLimit × RoundTheWrap × ReadyNoLonger
+unfolding RoundTheWrap ReadyNoLonger valuesOf colored freshDevice ringOf slotOf withRing withSlots plusOneAt withMarker withCounts counted total balanced windowFits memoryFits windowsFit ringSound limitFits stateSound ringFits ringsFit verdictOf readyWith readyWhere readyAt nextRing seek bytesOfRing pickOf unchanged fenceOf emitTo ringAfter deviceAfter reportOf finished servedOf pickedOf judgedOf verdictOn turnOf rowOf waitSize payloadSize targetAt commandAt isWhole unknownOpcode wrongPayloadBit noSuchSlot headerFault frameMisaligned frameUnfit frameFault heldFault isRectangle sizeOf widthOf heightOf tooNarrow endOf slotFault misaligned unframed outside unfitFrame outOfRange unfitDispatch checkOf emits interrupts wordsRead leaves ranOutcome dispatchedBy afterDispatch heldBy workOf orElse faultOf guarded performedOf after halfAt wordAt withByte withHalf withWord rectangleEnd filledRow filled windowOf putBack kernelCount firstWord kernelWords codeCount liesInCode allBelow soundPack kernelOf
 worked = (
   record {
     p1 = ((refl, refl), refl);
@@ -86,6 +86,7 @@ worked = (
     wfi = (refl, rw (least .2));
   },
   ((refl, refl), (refl, refl), (refl, refl), (refl, refl), (refl, refl)),
+  (refl, (refl, refl), (refl, refl)),
 )
   where
     -- a branch to itself as a whole turn
@@ -102,3 +103,6 @@ least-limit = worked .1
 
 pub round-the-wrap : RoundTheWrap
 round-the-wrap = worked .2
+
+pub ready-no-longer : ReadyNoLonger
+ready-no-longer = worked .3

@@ -35,7 +35,8 @@ use Rattle.device.proofs.Turns.{servedIn, turn-cases, call-steady, picked-serva
 use Rattle.device.proofs.Shapes.{after-edition, after-counts, after-shaped, fresh-shaped}
 use Rattle.demands.specs.Calls.{headIn, answerOf, leftBy, servedWith, servedWithIn, lastOf, isRefused, EachHeard, none, more}
 use Rattle.demands.specs.Bounded.{Lends, served, taken}
-use Rattle.demands.specs.RingCommands.{placeOf, nth, isEmitting}
+use Rattle.demands.specs.RingCommands.{placeOf, nth}
+use Rattle.demands.specs.EmitsAndWaits.{isEmitting}
 use Rattle.demands.specs.Idle.{emitsIn, countOf, oneMore}
 use Rattle.demands.proofs.Answers.{refused-serves}
 use Rattle.demands.proofs.Turns.{workIn, served-heard}

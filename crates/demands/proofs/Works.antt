@@ -30,7 +30,7 @@ use Rattle.work.proofs.Reports.{header-outcome, slot-outcome, checked-range, em
 use Rattle.state.specs.declared.edition.Edition.{Edition}
 use Rattle.state.specs.declared.edition.Edition.the-variants.{One, Two}
 use Rattle.state.specs.Slots.{isFull}
-use Rattle.demands.specs.RingCommands.{isEmitting}
+use Rattle.demands.specs.EmitsAndWaits.{isEmitting}
 use Rattle.demands.specs.Keeps.{PipeKept}
 use Rattle.demands.specs.Reports.{SetsFrame}
 

@@ -8,7 +8,7 @@ use Rattle.state.specs.declared.edition.Edition.the-variants.{One, Two}
 use Rattle.state.specs.Device.{Shaped, SlotsFit, slotOf}
 use Rattle.device.specs.Turn.{Call}
 use Rattle.demands.specs.Calls.{leftBy, numberIn, valuesIn, commandServed}
-use Rattle.demands.specs.RingCommands.{isEmitting}
+use Rattle.demands.specs.EmitsAndWaits.{isEmitting}
 
 -- the number that the slot of the served command held
 abbrev pub slotBefore : Device → Call → ℕ

@@ -14,7 +14,8 @@ use Rattle.device.specs.Turn.{Call}
 use Rattle.device.specs.Untaken.{sumOf}
 use Rattle.demands.specs.Calls.{numberIn, lastOf, EachHeard}
 use Rattle.demands.specs.Bounded.{Lends, taken}
-use Rattle.demands.specs.RingCommands.{placeOf, nth, isEmitting}
+use Rattle.demands.specs.RingCommands.{placeOf, nth}
+use Rattle.demands.specs.EmitsAndWaits.{isEmitting}
 use Rattle.demands.specs.Targets.{TargetsNear}
 
 -- how many of a ring's first n commands emit to a slot: a plain count

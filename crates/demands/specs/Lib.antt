@@ -3,6 +3,7 @@ pub mod Keeps
 pub mod Makings
 pub mod Counting
 pub mod Reports
+pub mod EmitsAndWaits
 pub mod Editions
 pub mod RingCommands
 pub mod Targets

@@ -23,6 +23,7 @@ use Rattle.state.specs.declared.edition.Edition.the-variants.{One}
 use Rattle.state.specs.declared.edition.Start.the-variants.{Edition2}
 use Rattle.state.specs.Counts.{noCounts}
 use Rattle.state.specs.Device.{emptyWindow, freshRing, deviceOf, defaultLimit, freshDevice}
+use Rattle.state.specs.Ready.{readyAt}
 use Rattle.device.specs.Answer.{answerNumber, noValues, valuesOf}
 use Rattle.device.specs.Turn.{Call, callOf, TurnEnd, turnOf}
 use Rattle.demands.specs.Calls.{ServesRing}
@@ -160,3 +161,12 @@ RoundTheWrap =
     let t4 = turnOf (t3 .turned .device) call in
     ServedAs 0 0 4294967295 true t1 × ServedAs 0 0 0 true t2 × ServedAs 0 0 1 true t3 × ServedAs 1 0 0 false t4
     × IdleTurn (turnOf (t4 .turned .device) call)
+
+-- why edition 2 asks of the targets: from 2,147,483,648 ring 1, which waits for 1, is ready; but ring 0's emit is served first, and
+-- then no ring is ready
+unfoldable pub ReadyNoLonger : Type 0
+ReadyNoLonger =
+    let call = lent 0 (emitTo 5) (waitFor 5) [] [] in
+    let fresh = freshDevice emptyWindow emptyWindow emptyWindow emptyWindow defaultLimit (Edition2 2147483648) in
+    let t1 = turnOf fresh call in
+    (readyAt fresh 1 (waitFor 5) ≡ true) × ServedAs 0 0 2147483649 true t1 × IdleTurn (turnOf (t1 .turned .device) call)

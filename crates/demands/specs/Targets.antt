@@ -10,7 +10,8 @@ use Rattle.words.specs.Arithmetic.{difference}
 use Rattle.command.specs.Header.{isWhole}
 use Rattle.state.specs.declared.edition.Start.{Start}
 use Rattle.state.specs.declared.edition.Start.the-variants.{Edition1, Edition2}
-use Rattle.demands.specs.RingCommands.{placeOf, nth, isWaiting}
+use Rattle.demands.specs.RingCommands.{placeOf, nth}
+use Rattle.demands.specs.EmitsAndWaits.{isWaiting}
 
 -- the target is at most 1,073,741,824 past the starting number, round the wrap
 pub record Near (first target : ℕ) : Type 0 where
