@@ -19,7 +19,6 @@ use Rattle.state.specs.declared.edition.Start.{Start}
 use Rattle.state.specs.declared.refusal.Verdict.the-variants.{Sound}
 use Rattle.state.specs.declared.ready.Picked.the-variants.{Ring as RingOf}
 use Rattle.state.specs.Device.{freshDevice, SlotsFit, ringOf, slotOf}
-use Rattle.state.specs.Edition.{editionOf}
 use Rattle.device.specs.Answer.{valuesOf}
 use Rattle.state.specs.Ready.{readyWith, readyWhere, readyAt, pickOf}
 use Rattle.device.specs.Turn.{Call, TurnEnd, turnOf, unchanged, reportOf, finished, servedOf, ringIn, pickIn, verdictOn}
