@@ -42,7 +42,7 @@ enum case_kind draw_case(struct call *call, uint64_t seed, uint64_t number)
         draw_fresh(call, &c);
         return CASE_FRESH;
     }
-    if (x < 450) {
+    if (x < 430) {
         draw_structured(call, &c);
         return CASE_STRUCTURED;
     }
@@ -61,6 +61,8 @@ static void draw_length(struct piece *piece, struct chance *c, uint32_t right)
         piece_zeros(piece, 0);
     else if (mille(c, 300))
         piece_zeros(piece, below(c, right + ROOM_BESIDE + 1));
+    else if (mille(c, 300)) /* some words short */
+        piece_zeros(piece, right - WORD * (1 + below(c, 6)));
     else
         piece_zeros(piece, right - WORD + below(c, 2 * WORD + 1));
 }

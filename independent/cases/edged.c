@@ -4,6 +4,7 @@
 #include "cases/commands.h"
 #include "cases/draw.h"
 #include "cases/editions.h"
+#include "cases/kernels/table.h"
 #include "cases/words.h"
 #include "device/image.h"
 
@@ -112,28 +113,57 @@ static void far_code(struct call *call)
     move_up(pack, (size_t)(end - pack->bytes) + WORD, (size_t)WORD * up);
 }
 
-/* A payload, any command, or kernels behind as much as there may be. */
+/* One kernel that is all the code there may be. It hops to its last words, and
+ * ends or stops with the last or behind it. */
+static void far_kernel(struct call *call, struct chance *c)
+{
+    enum { HOP = 1023, LAST_HOP = IND_CODE_MOST / HOP * HOP }; /* words */
+    const uint32_t ends[5] = {
+        table[ROW_MEMBAR].match, table[ROW_WFI].match, 0,
+        word_s(ROW_SW, 0, 0, -4), word_b(ROW_BEQ, 0, 0, 4)
+    };
+    struct piece *pack = &call->pieces[PIECE_PACK];
+    uint8_t *code = pack->bytes + IND_PACK_LEAST + IND_PAIR_BYTES;
+
+    piece_zeros(pack, IND_PACK_LEAST + IND_PAIR_BYTES + WORD * IND_CODE_MOST);
+    put_word(pack->bytes, 1);
+    put_word(pack->bytes + 2 * WORD, IND_CODE_MOST);
+    put_word(pack->bytes + 3 * WORD, IND_CODE_MOST);
+    for (int i = 0; i < LAST_HOP; i += HOP)
+        put_word(code + WORD * i, word_b(ROW_BEQ, 0, 0, WORD * HOP));
+    for (int i = LAST_HOP; i < IND_CODE_MOST - 1; i++)
+        put_word(code + WORD * i, table[ROW_MEMBAR].match);
+    put_word(code + WORD * (IND_CODE_MOST - 1), ends[below(c, 5)]);
+}
+
+/* A payload, any command, or kernels behind as much as there may be; or a
+ * kernel that is as much. */
 static void draw_far(struct scene *s)
 {
     uint32_t x = below(s->c, 1000);
+    int long_kernel = x >= 700 && x < 900;
 
     s->odd = 40;
     s->opcode = x < 400 ? WRITE_MEM : x < 900 ? DISPATCH_1D : ANY;
     draw_turn(s, 0);
-    if (s->opcode == DISPATCH_1D)
+    if (long_kernel)
+        far_kernel(s->call, s->c);
+    else if (s->opcode == DISPATCH_1D)
         far_code(s->call);
     else
         far_command(s->call, s->lead);
 }
 
 enum theme {
-    THEME_STEPS, THEME_STOPS, THEME_SLOTS, THEME_LEN, THEME_TRANSFERS,
-    THEME_FRAMES, THEME_RECTANGLES, THEME_WAITS, THEME_NONE
+    THEME_STEPS, THEME_STOPS, THEME_LATE, THEME_SLOTS, THEME_LEN,
+    THEME_TRANSFERS, THEME_FRAMES, THEME_RECTANGLES, THEME_WAITS, THEME_NONE
 };
 
 static enum theme any_theme(struct chance *c)
 {
-    static const uint8_t shares[THEME_NONE] = { 18, 13, 14, 3, 6, 6, 11, 10 };
+    static const uint8_t shares[THEME_NONE] = {
+        13, 7, 36, 13, 3, 5, 6, 10, 7
+    };
     uint32_t x = below(c, 100);
     int theme = 0;
 
@@ -144,13 +174,13 @@ static enum theme any_theme(struct chance *c)
 
 static const uint8_t transfers[3] = { WRITE_MEM, READ_MEM, COPY_BUFFER };
 
-/* A kernel that takes the last steps there are, or stops. */
+/* A kernel that takes the last steps there are, or stops, at once or late. */
 static void wish_kernel(struct scene *s, enum theme theme)
 {
     s->opcode = DISPATCH_1D;
-    if (theme == THEME_STEPS) {
-        s->style = STYLE_EXACT;
-        s->odd = 50;
+    if (theme == THEME_STEPS || theme == THEME_LATE) {
+        s->style = theme == THEME_STEPS ? STYLE_EXACT : STYLE_LATE;
+        s->odd = theme == THEME_STEPS ? 50 : 30;
         return;
     }
     s->style = mille(s->c, 850) ? STYLE_MISS
@@ -166,6 +196,7 @@ static uint32_t wish(struct scene *s)
     switch (theme) {
     case THEME_STEPS:
     case THEME_STOPS:
+    case THEME_LATE:
         wish_kernel(s, theme);
         return 0;
     case THEME_SLOTS: /* full ones */

@@ -43,6 +43,15 @@ uint32_t exact_limit(struct chance *c)
                    : IND_LIMIT_MOST - (uint32_t)mille(c, 300);
 }
 
+uint32_t late_limit(struct chance *c)
+{
+    uint32_t x = below(c, 1000);
+
+    if (x < 300)
+        return 12 + below(c, 16);
+    return x < 850 ? 24 + below(c, 60) : usual_limit(c);
+}
+
 uint32_t outside_limit(struct chance *c)
 {
     static const uint32_t limits[8] = {

@@ -14,6 +14,8 @@ uint32_t edged_limit(struct chance *c);
 uint32_t usual_limit(struct chance *c);
 /* One for a kernel that is made to use up its steps: most are short. */
 uint32_t exact_limit(struct chance *c);
+/* One for a kernel of which one thread stops after a few steps. */
+uint32_t late_limit(struct chance *c);
 /* Mostly one that no device has; else any word at an edge. */
 uint32_t outside_limit(struct chance *c);
 

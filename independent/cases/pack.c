@@ -9,8 +9,8 @@ static enum style any_style(struct scene *s)
 {
     uint32_t x = below(s->c, 1000);
 
-    return x < 580 ? STYLE_BRIEF : x < 720 ? STYLE_MISS
-         : x < 850 ? STYLE_CAREFUL : x < 890 ? STYLE_NEAR
+    return x < 570 ? STYLE_BRIEF : x < 660 ? STYLE_LATE : x < 750 ? STYLE_MISS
+         : x < 870 ? STYLE_CAREFUL : x < 900 ? STYLE_NEAR
          : x < 930 ? STYLE_WILD : x < 950 ? STYLE_NOISE
          : x < 995 ? STYLE_EXACT : STYLE_FAR;
 }
@@ -37,6 +37,19 @@ static uint32_t exact_threads(struct scene *s)
     return s->device.limit >= IND_LIMIT_DEFAULT ? 1 : 1 + below(s->c, 2);
 }
 
+/* So many groups, and threads in a group, may run a kernel of this style. */
+static uint32_t threads_for(struct scene *s, enum style style)
+{
+    switch (style) {
+    case STYLE_EXACT:
+        return exact_threads(s);
+    case STYLE_LATE:
+        return mille(s->c, 150) ? IND_SIDE_MOST : 6;
+    default:
+        return 3;
+    }
+}
+
 /* The kernel made for a ring. */
 static uint32_t make_own(struct scene *s, uint32_t number, uint32_t ring,
                          uint32_t *code)
@@ -48,18 +61,31 @@ static uint32_t make_own(struct scene *s, uint32_t number, uint32_t ring,
         s->threads[number] = IND_SIDE_MOST;
         return make_tiny(s, code);
     }
-    s->threads[number] = style == STYLE_EXACT ? exact_threads(s) : 3;
+    s->threads[number] = threads_for(s, style);
     return make_kernel(s->c, style, window, s->device.limit, code);
+}
+
+/* Words of no kernel, so that the first does not start with the code; gives how
+ * many. */
+static uint32_t put_no_kernel(struct scene *s, uint32_t *code)
+{
+    uint32_t words = 1 + below(s->c, 3);
+
+    for (uint32_t i = 0; i < words; i++)
+        code[i] = 0;
+    return words;
 }
 
 /* Kernels that are no ring's are parts of the same code: they cost no words. */
 void draw_kernels(struct scene *s, uint32_t own)
 {
-    static uint32_t code[(IND_RINGS + 1) * KERNEL_WORDS_MOST];
+    static uint32_t code[(IND_RINGS + 2) * KERNEL_WORDS_MOST];
     static uint8_t laid[PACK_MOST];
     uint32_t first[IND_KERNELS_MOST], words[IND_KERNELS_MOST], total = 0;
     uint32_t parts = 0;
 
+    if (own != 0 && mille(s->c, 250))
+        total = put_no_kernel(s, code);
     if (own != 0 && mille(s->c, 300))
         parts = below(s->c, IND_KERNELS_MOST - own - s->probes + 1);
     for (uint32_t i = 0; i < own + s->probes; i++) {

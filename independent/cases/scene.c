@@ -63,6 +63,8 @@ void draw_window(struct scene *s, uint32_t number)
     uint32_t words = s->memory_len / 4, first = 0, count = words;
     uint32_t way = below(s->c, 16);
 
+    if (s->style == STYLE_LATE && mille(s->c, 120))
+        way = 0;
     if (way == 0) { /* empty, at the memory's end too */
         first = below(s->c, words + 1);
         count = 0;
@@ -190,7 +192,8 @@ void draw_state(struct scene *s, uint32_t memory_len)
     if (s->opcode == ANY)
         s->opcode = any_opcode(s);
     s->device.limit = s->style == STYLE_EXACT ? exact_limit(s->c)
-                                              : usual_limit(s->c);
+                    : s->style == STYLE_LATE ? late_limit(s->c)
+                                             : usual_limit(s->c);
     draw_memory(s, memory_len != 0 ? memory_len : any_memory_len(s->c));
     s->device.edition = s->full != ANY && mille(s->c, 300)
         ? IND_EDITION_1 : any_edition(s->c);

@@ -5,10 +5,11 @@
 #include <string.h>
 
 #include "cases/fences.h"
-#include "cases/kernels/table.h"
 #include "cases/limits.h"
 #include "cases/lines.h"
 #include "cases/sights.h"
+#include "cases/stops.h"
+#include "cases/trace.h"
 #include "device/image.h"
 
 enum {
@@ -44,68 +45,7 @@ static struct {
     uint64_t with_nulls, null[PIECES];
 } count;
 
-/* ---- a dispatch, run again to look at its steps ---- */
-
-struct trace {
-    uint8_t seen[ROWS];
-    uint64_t steps;
-    int last_step_ends, step_more_ends;
-};
-
-/* Whether the word that a thread is at ends it. */
-static int wfi_is_next(const struct ind_thread *thread,
-                       const struct ind_kernel *kernel)
-{
-    return thread->place < WORD * kernel->words
-        && ind_get(kernel->code + thread->place, WORD) == table[ROW_WFI].match;
-}
-
-static uint32_t trace_thread(struct trace *trace, struct ind_thread *thread,
-                             const struct ind_kernel *kernel,
-                             const struct ind_window *window, uint32_t limit)
-{
-    uint32_t answer = IND_GOES_ON;
-
-    while (answer == IND_GOES_ON) {
-        uint32_t place = thread->place, steps = thread->steps;
-        answer = ind_step(thread, kernel, window, limit);
-        if (thread->steps != steps) /* a stop is no step */
-            trace->seen[row_of(ind_get(kernel->code + place, WORD))] = 1;
-    }
-    trace->steps += thread->steps;
-    trace->last_step_ends |= answer == IND_ENDED && thread->steps == limit;
-    trace->step_more_ends |= answer == IND_STEPS_SPENT
-        && wfi_is_next(thread, kernel);
-    return answer;
-}
-
-static void trace_dispatch(struct trace *trace, const struct call *before,
-                           const struct ind_command *command,
-                           const struct ind_ring *ring, uint32_t limit)
-{
-    const struct piece *memory = &before->pieces[PIECE_MEMORY];
-    const struct piece *pack = &before->pieces[PIECE_PACK];
-    uint8_t *copy = malloc(memory->length + 1);
-    struct ind_window window = {
-        copy, ring->window_start, ring->window_length
-    };
-    struct ind_kernel kernel;
-    uint32_t answer = IND_ENDED;
-
-    if (copy == NULL
-        || !ind_kernel_extent(pack->bytes, pack->length, command->arg2,
-                              &kernel))
-        abort();
-    memcpy(copy, memory->bytes, memory->length);
-    uint32_t all = command->arg0 * command->arg1;
-    for (uint32_t n = 0; n < all && answer == IND_ENDED; n++) {
-        struct ind_thread thread;
-        ind_thread_start(&thread, n / command->arg1, n % command->arg1,
-                         command->arg1, command->arg0);
-        answer = trace_thread(trace, &thread, &kernel, &window, limit);
-    }
-    free(copy);
-}
+/* ---- calls ---- */
 
 static void count_trace(const struct trace *trace)
 {
@@ -117,8 +57,6 @@ static void count_trace(const struct trace *trace)
     count.sight[SEEN_LAST_STEP] += (uint64_t)trace->last_step_ends;
     count.sight[SEEN_STEP_MORE] += (uint64_t)trace->step_more_ends;
 }
-
-/* ---- calls ---- */
 
 static int ran(const struct served *v)
 {
@@ -150,11 +88,35 @@ static struct served served_of(const struct call *before,
     return v;
 }
 
+/* A dispatch, run again on a copy of the memory. */
+static void tally_run(const struct served *v)
+{
+    const struct ind_ring *own = &v->device.rings[v->report.ring];
+    const struct piece *memory = &v->before->pieces[PIECE_MEMORY];
+    const struct piece *pack = &v->before->pieces[PIECE_PACK];
+    uint8_t *copy = malloc(memory->length + 1);
+    const struct ind_window window = {
+        copy, own->window_start, own->window_length
+    };
+    struct ind_kernel kernel;
+    struct trace trace;
+
+    if (copy == NULL
+        || !ind_kernel_extent(pack->bytes, pack->length, v->command.arg2,
+                              &kernel))
+        abort();
+    memcpy(copy, memory->bytes, memory->length);
+    trace_dispatch(&trace, &kernel, &window, &v->command, v->device.limit);
+    free(copy);
+    count_trace(&trace);
+    count.limit[span_of(limits, v->device.limit)]++;
+    if (v->report.outcome != IND_DONE)
+        stops_served(v, &trace, &kernel);
+}
+
 static void tally_served(const struct call *before, const struct call *after)
 {
     struct served v = served_of(before, after);
-    const struct ind_ring *own = &v.device.rings[v.report.ring];
-    struct trace trace = {{0}, 0, 0, 0};
 
     count.outcome[v.report.outcome]++;
     count_rounds(&v);
@@ -162,11 +124,8 @@ static void tally_served(const struct call *before, const struct call *after)
     for (int i = 0; i < OPCODES; i++)
         count.opcode_done[i] += v.report.outcome == IND_DONE
             && opcodes[i].opcode == v.command.opcode;
-    if (ran(&v)) {
-        trace_dispatch(&trace, before, &v.command, own, v.device.limit);
-        count_trace(&trace);
-        count.limit[span_of(limits, v.device.limit)]++;
-    }
+    if (ran(&v))
+        tally_run(&v);
 }
 
 static void tally_nulls(const struct call *before)
@@ -317,6 +276,7 @@ static int table_of(FILE *out)
     title(out, "calls that ran a kernel, by the limit of steps");
     missing += span_lines(out, "limit", IND_LIMIT_LEAST, limits, count.limit,
                           LIMITS);
+    missing += stops_lines(out);
     missing += fences_lines(out);
     title(out, "calls that show");
     for (int i = 0; i < SIGHTS; i++)

@@ -137,14 +137,15 @@ static int ready(const struct ind_device *device, uint32_t ring,
 
 static uint32_t outcome_of(struct ind_device *device, uint32_t ring,
                            const struct ind_lent *lent,
-                           const struct ind_command *command)
+                           const struct ind_command *command,
+                           struct ind_stop *stop)
 {
     uint32_t outcome = ind_header_fault(command);
 
     if (outcome == IND_DONE)
         outcome = ind_work_fault(device, ring, command, lent);
     if (outcome == IND_DONE)
-        outcome = ind_work(device, ring, command, lent);
+        outcome = ind_work(device, ring, command, lent, stop);
     return outcome;
 }
 
@@ -152,7 +153,7 @@ static void serve(struct ind_device *device, uint32_t ring,
                   const struct ind_lent *lent,
                   const struct ind_command *command, struct ind_report *report)
 {
-    uint32_t outcome = outcome_of(device, ring, lent, command);
+    uint32_t outcome = outcome_of(device, ring, lent, command, &report->stop);
 
     device->rings[ring].cursor += command->size;
     device->marker = (ring + 1) % IND_RINGS;

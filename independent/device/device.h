@@ -89,10 +89,18 @@ struct ind_device {
     uint32_t edition; /* 2, or any other number for 1 */
 };
 
+/* Where a kernel stopped (11 to 14). All 0 where none did. */
+struct ind_stop {
+    uint32_t address; /* of 13: the first that is not in the window; else 0 */
+    uint32_t place;   /* where the thread stood, from the kernel's start */
+    uint32_t group, thread;
+};
+
 struct ind_report {
     uint32_t status; /* 0 served, 1 idle, or 101 to 105 */
     uint32_t ring, outcome, fence, words_read, irq;
     uint32_t emitted; /* 1 with a fence, which may be 0, else 0 */
+    struct ind_stop stop;
 };
 
 /* Makes a fresh device of edition 1 and the default limit; windows are pairs
@@ -161,17 +169,23 @@ void ind_thread_start(struct ind_thread *thread, uint32_t group,
                       uint32_t groups);
 
 /* One step: goes on (0), ended (1), or 11 to 14. A stop (11 to 14) leaves the
- * thread and the memory as they were. */
+ * thread and the memory as they were. *outside is the first address of a load
+ * or store that is not in the window (13), else 0. */
 uint32_t ind_step(struct ind_thread *thread, const struct ind_kernel *kernel,
-                  const struct ind_window *window, uint32_t limit);
+                  const struct ind_window *window, uint32_t limit,
+                  uint32_t *outside);
 
-/* Steps until the thread ends (0) or first stops (11 to 14). */
+/* Steps until the thread ends (0) or first stops (11 to 14), at its place.
+ * *outside is that of the last step. */
 uint32_t ind_run(struct ind_thread *thread, const struct ind_kernel *kernel,
-                 const struct ind_window *window, uint32_t limit);
+                 const struct ind_window *window, uint32_t limit,
+                 uint32_t *outside);
 
-/* A whole dispatch, each thread under the limit: 0, or 11 to 14. */
+/* A whole dispatch, each thread under the limit: 0, or 11 to 14 and where that
+ * was. */
 uint32_t ind_dispatch(const struct ind_kernel *kernel,
                       const struct ind_window *window, uint32_t groups,
-                      uint32_t threads, uint32_t limit);
+                      uint32_t threads, uint32_t limit,
+                      struct ind_stop *stop);
 
 #endif

@@ -47,8 +47,9 @@ static int addresses_hold(const struct ind_command *command, uint64_t bytes,
 {
     const struct ind_window window = {NULL, 0, window_length};
 
-    return ind_holds(&window, command->arg0, bytes)
-        && (!has_source(command) || ind_holds(&window, command->arg1, bytes));
+    return ind_reach(&window, command->arg0, bytes).inside
+        && (!has_source(command)
+            || ind_reach(&window, command->arg1, bytes).inside);
 }
 
 static uint32_t transfer_fault(const struct ind_command *command,

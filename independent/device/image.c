@@ -73,6 +73,10 @@ void ind_report_encode(const struct ind_report *report, uint8_t *bytes)
     put_next(&bytes, report->words_read);
     put_next(&bytes, report->irq);
     put_next(&bytes, report->emitted);
+    put_next(&bytes, report->stop.address);
+    put_next(&bytes, report->stop.place);
+    put_next(&bytes, report->stop.group);
+    put_next(&bytes, report->stop.thread);
 }
 
 void ind_report_decode(const uint8_t *bytes, struct ind_report *report)
@@ -84,6 +88,10 @@ void ind_report_decode(const uint8_t *bytes, struct ind_report *report)
     report->words_read = get_next(&bytes);
     report->irq = get_next(&bytes);
     report->emitted = get_next(&bytes);
+    report->stop.address = get_next(&bytes);
+    report->stop.place = get_next(&bytes);
+    report->stop.group = get_next(&bytes);
+    report->stop.thread = get_next(&bytes);
 }
 
 static uint32_t make(uint8_t *device, size_t device_len,

@@ -52,11 +52,14 @@ static uint32_t branch(struct ind_thread *thread,
 
 static uint32_t load_or_store(struct ind_thread *thread,
                               const struct ind_instruction *in,
-                              const struct ind_window *window)
+                              const struct ind_window *window,
+                              uint32_t *outside)
 {
     uint32_t address = read_scalar(thread, in->rs1) + in->imm;
+    struct ind_reach reach = ind_reach(window, address, in->size);
 
-    if (!ind_holds(window, address, in->size))
+    *outside = reach.outside;
+    if (!reach.inside)
         return IND_BAD_ACCESS;
     if (in->kind == KIND_STORE) {
         ind_store(window, address, in->size, read_scalar(thread, in->rs2));
@@ -69,11 +72,14 @@ static uint32_t load_or_store(struct ind_thread *thread,
 
 static uint32_t vector_load_or_store(struct ind_thread *thread,
                                      const struct ind_instruction *in,
-                                     const struct ind_window *window)
+                                     const struct ind_window *window,
+                                     uint32_t *outside)
 {
     uint32_t address = read_scalar(thread, in->rs1);
+    struct ind_reach reach = ind_reach(window, address, VECTOR_BYTES);
 
-    if (!ind_holds(window, address, VECTOR_BYTES))
+    *outside = reach.outside;
+    if (!reach.inside)
         return IND_BAD_ACCESS;
     for (uint32_t i = 0; i < IND_VECTOR_WORDS; i++) {
         if (in->kind == KIND_VST)
@@ -127,7 +133,7 @@ static void write_result(struct ind_thread *thread,
 static uint32_t carry_out(struct ind_thread *thread,
                           const struct ind_instruction *in,
                           const struct ind_kernel *kernel,
-                          const struct ind_window *window)
+                          const struct ind_window *window, uint32_t *outside)
 {
     uint32_t stop = IND_GOES_ON;
 
@@ -136,11 +142,11 @@ static uint32_t carry_out(struct ind_thread *thread,
         return branch(thread, in, kernel);
     case KIND_LOAD:
     case KIND_STORE:
-        stop = load_or_store(thread, in, window);
+        stop = load_or_store(thread, in, window, outside);
         break;
     case KIND_VLD:
     case KIND_VST:
-        stop = vector_load_or_store(thread, in, window);
+        stop = vector_load_or_store(thread, in, window, outside);
         break;
     default:
         write_result(thread, in);
@@ -153,8 +159,10 @@ static uint32_t carry_out(struct ind_thread *thread,
 
 /* Asked in this order: 14, off the end (12), 11, then branch or address. */
 uint32_t ind_step(struct ind_thread *thread, const struct ind_kernel *kernel,
-                  const struct ind_window *window, uint32_t limit)
+                  const struct ind_window *window, uint32_t limit,
+                  uint32_t *outside)
 {
+    *outside = 0;
     if (thread->steps >= limit)
         return IND_STEPS_SPENT;
     if (!inside(kernel, thread->place))
@@ -163,7 +171,7 @@ uint32_t ind_step(struct ind_thread *thread, const struct ind_kernel *kernel,
         ind_decode(ind_get(kernel->code + thread->place, WORD));
     if (in.kind == KIND_NOT_LISTED)
         return IND_NOT_LISTED;
-    uint32_t stop = carry_out(thread, &in, kernel, window);
+    uint32_t stop = carry_out(thread, &in, kernel, window, outside);
     if (stop != IND_GOES_ON)
         return stop;
     thread->steps++;
@@ -171,27 +179,38 @@ uint32_t ind_step(struct ind_thread *thread, const struct ind_kernel *kernel,
 }
 
 uint32_t ind_run(struct ind_thread *thread, const struct ind_kernel *kernel,
-                 const struct ind_window *window, uint32_t limit)
+                 const struct ind_window *window, uint32_t limit,
+                 uint32_t *outside)
 {
     uint32_t answer;
 
     do
-        answer = ind_step(thread, kernel, window, limit);
+        answer = ind_step(thread, kernel, window, limit, outside);
     while (answer == IND_GOES_ON);
     return answer == IND_ENDED ? IND_DONE : answer;
 }
 
 uint32_t ind_dispatch(const struct ind_kernel *kernel,
                       const struct ind_window *window, uint32_t groups,
-                      uint32_t threads, uint32_t limit)
+                      uint32_t threads, uint32_t limit, struct ind_stop *stop)
 {
+    const struct ind_stop none = {0, 0, 0, 0};
+
+    *stop = none;
     for (uint32_t group = 0; group < groups; group++) {
         for (uint32_t number = 0; number < threads; number++) {
             struct ind_thread thread;
+            uint32_t outside;
             ind_thread_start(&thread, group, number, threads, groups);
-            uint32_t outcome = ind_run(&thread, kernel, window, limit);
-            if (outcome != IND_DONE)
+            uint32_t outcome = ind_run(&thread, kernel, window, limit,
+                                       &outside);
+            if (outcome != IND_DONE) {
+                const struct ind_stop here = {
+                    outside, thread.place, group, number
+                };
+                *stop = here;
                 return outcome;
+            }
         }
     }
     return IND_DONE;

@@ -32,8 +32,14 @@ int ind_is_four(uint32_t value);
 
 /* ---- memory.c: a window ---- */
 
-int ind_holds(const struct ind_window *window, uint32_t address,
-              uint64_t bytes);
+/* Either all bytes lie in the window, or one address is the first outside. */
+struct ind_reach {
+    int inside;
+    uint32_t outside; /* 0 if all lie inside */
+};
+
+struct ind_reach ind_reach(const struct ind_window *window, uint32_t address,
+                           uint64_t bytes);
 uint32_t ind_load(const struct ind_window *window, uint32_t address,
                   uint32_t count);
 void ind_store(const struct ind_window *window, uint32_t address,
@@ -136,7 +142,7 @@ uint32_t ind_slot_emit(struct ind_device *device, uint32_t slot);
 
 uint32_t ind_work(struct ind_device *device, uint32_t ring,
                   const struct ind_command *command,
-                  const struct ind_lent *lent);
+                  const struct ind_lent *lent, struct ind_stop *stop);
 
 /* ---- device.c: a making ---- */
 

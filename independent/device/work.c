@@ -46,19 +46,21 @@ static void draw_rectangle(const struct ind_window *window,
 /* That there is such a kernel was seen to under outcome 10. */
 static uint32_t dispatch(const struct ind_window *window,
                          const struct ind_command *command,
-                         const struct ind_lent *lent, uint32_t limit)
+                         const struct ind_lent *lent, uint32_t limit,
+                         struct ind_stop *stop)
 {
     struct ind_kernel kernel;
 
     if (!ind_kernel_extent(lent->pack, lent->pack_len, command->arg2, &kernel))
         return IND_BAD_DISPATCH;
-    return ind_dispatch(&kernel, window, command->arg0, command->arg1, limit);
+    return ind_dispatch(&kernel, window, command->arg0, command->arg1, limit,
+                        stop);
 }
 
-/* Gives 0, or a dispatch's 11 to 14. */
+/* Gives 0, or a dispatch's 11 to 14 and where it stopped. */
 uint32_t ind_work(struct ind_device *device, uint32_t ring,
                   const struct ind_command *command,
-                  const struct ind_lent *lent)
+                  const struct ind_lent *lent, struct ind_stop *stop)
 {
     struct ind_ring *own = &device->rings[ring];
     const struct ind_window window = {
@@ -83,7 +85,7 @@ uint32_t ind_work(struct ind_device *device, uint32_t ring,
         own->frame = ind_frame_asked(command);
         break;
     case DISPATCH_1D:
-        return dispatch(&window, command, lent, device->limit);
+        return dispatch(&window, command, lent, device->limit, stop);
     default: /* BARRIER: each command ends in its turn anyway */
         break;
     }

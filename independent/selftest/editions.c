@@ -396,7 +396,6 @@ void test_editions(void)
     CHECK_EQ(IND_IMAGE_EDITION, 113);
     CHECK_EQ(IND_IMAGE_BYTES, 456);
     CHECK_EQ(IND_REPORT_EMITTED, 6);
-    CHECK_EQ(IND_REPORT_BYTES, 28);
     makings();
     half_the_range();
     every_edge();

@@ -23,10 +23,12 @@ static uint32_t step(struct rig *rig, const uint32_t *words, uint32_t count)
     uint8_t code[64];
     const struct ind_kernel kernel = {0, count, code};
     const struct ind_window window = {rig->memory, AWAY, WINDOW};
+    uint32_t outside;
 
     for (uint32_t i = 0; i < count; i++)
         put_word(code + 4 * i, words[i]);
-    return ind_step(&rig->thread, &kernel, &window, IND_LIMIT_DEFAULT);
+    return ind_step(&rig->thread, &kernel, &window, IND_LIMIT_DEFAULT,
+                    &outside);
 }
 
 static uint32_t step_one(struct rig *rig, uint32_t word)
@@ -365,8 +367,9 @@ static void limits(void)
     put_word(code + 4, b_shape(0, 0, 0, -4));
     for (uint32_t limit = 0; limit < 10; limit++) {
         struct ind_thread thread;
+        uint32_t outside;
         ind_thread_start(&thread, 0, 0, 1, 1);
-        CHECK_EQ(ind_run(&thread, &kernel, &window, limit), 14);
+        CHECK_EQ(ind_run(&thread, &kernel, &window, limit, &outside), 14);
         CHECK_EQ(thread.steps, limit);
         CHECK_EQ(thread.place, limit % 2 * 4);
     }

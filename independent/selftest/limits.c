@@ -151,10 +151,11 @@ static void wfi_is_where_it_should_be(void)
         const struct ind_kernel kernel = {0, wfi_at(steps, code), bytes};
         const struct ind_window window = {NULL, 0, 0};
         struct ind_thread thread;
+        uint32_t outside;
         for (uint32_t i = 0; i < kernel.words; i++)
             put_word(bytes + 4 * i, code[i]);
         ind_thread_start(&thread, 0, 0, 1, 1);
-        CHECK_EQ(ind_run(&thread, &kernel, &window, UINT32_MAX), 0);
+        CHECK_EQ(ind_run(&thread, &kernel, &window, UINT32_MAX, &outside), 0);
         CHECK_EQ(thread.steps, steps);
     }
 }
@@ -189,13 +190,15 @@ static void p9_under(uint32_t limit)
     const struct ind_kernel kernel = {0, 1, code};
     const struct ind_window window = {NULL, 0, 0};
     struct ind_thread thread;
+    struct ind_stop stop;
+    uint32_t outside;
 
     put_word(code, 0x0000000E);
     ind_thread_start(&thread, 0, 0, 1, 1);
-    CHECK_EQ(ind_run(&thread, &kernel, &window, limit), 14);
+    CHECK_EQ(ind_run(&thread, &kernel, &window, limit, &outside), 14);
     CHECK_EQ(thread.steps, limit);
     CHECK_EQ(thread.place, 0);
-    CHECK_EQ(ind_dispatch(&kernel, &window, 2, 2, limit), 14);
+    CHECK_EQ(ind_dispatch(&kernel, &window, 2, 2, limit, &stop), 14);
 }
 
 void test_limits(void)

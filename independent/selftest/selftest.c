@@ -38,10 +38,11 @@ static uint32_t run_word(struct ind_thread *thread, uint32_t word)
     uint8_t code[4];
     const struct ind_kernel kernel = {0, 1, code};
     const struct ind_window window = {NULL, 0, 0};
+    uint32_t outside;
 
     put_word(code, word);
     thread->place = 0;
-    return ind_step(thread, &kernel, &window, IND_LIMIT_DEFAULT);
+    return ind_step(thread, &kernel, &window, IND_LIMIT_DEFAULT, &outside);
 }
 
 static void p4_to_p7(void)
@@ -198,6 +199,7 @@ int main(void)
     test_counts();
     test_editions();
     test_kernels();
+    test_stops();
     test_replay();
     test_image();
     test_nulls();

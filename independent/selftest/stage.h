@@ -111,6 +111,7 @@ void test_limits(void);
 void test_counts(void);
 void test_editions(void);
 void test_kernels(void);
+void test_stops(void);
 void test_replay(void);
 void test_image(void);
 void test_nulls(void);

@@ -1,8 +1,9 @@
 #!/bin/sh
-# mutants.sh BUILD SEED: builds each error of self.c and editions.c into the comparison, which must tell it, and none, which
-# must not differ.
+# mutants.sh BUILD SEED: builds each error of self.c, editions.c and stops.c into the comparison, which must tell it, and
+# none, which must not differ.
 # The errors about NULL are built into the comparison of empty pieces too, and errors 18, 32 and 88, which show with an
-# empty piece whether or not it is NULL, and errors 35, 36 and 61 to 63, as counts of commands and a fence go round there.
+# empty piece whether or not it is NULL, errors 35, 36 and 61 to 63, as counts of commands and a fence go round there, and
+# errors 99, 101, 107, 126 and 128, as a kernel stops in an empty window there.
 # BUILD: the folder of this folder's objects; CC, CFLAGS and LDFLAGS as for make.
 set -eu
 here=$(cd "$(dirname "$(readlink -f "$0")")" && pwd -P)
@@ -16,7 +17,7 @@ try() { # PROGRAM MUTANT WORD..: the program's last line, or the signal that end
     mutant=$2
     shift 2
     # shellcheck disable=SC2086
-    ${CC:-gcc} ${CFLAGS:--std=c11 -O2} -I "$here/.." -DMUTANT="$mutant" "$here/self.c" "$here/editions.c" "$build/$program-all.o" ${LDFLAGS:-} -o "$build/mutant"
+    ${CC:-gcc} ${CFLAGS:--std=c11 -O2} -I "$here/.." -DMUTANT="$mutant" "$here/self.c" "$here/editions.c" "$here/stops.c" "$build/$program-all.o" ${LDFLAGS:-} -o "$build/mutant"
     status=0
     "$build/mutant" "$@" > "$build/mutant.out" || status=$?
     builds=$((builds + 1))
@@ -26,10 +27,10 @@ try() { # PROGRAM MUTANT WORD..: the program's last line, or the signal that end
     echo "mutant $mutant, $program: $end"
 }
 
-for error in $(seq 0 89); do
+for error in $(seq 0 129); do
     try whole "$error" 20000 "$seed"
 done
-for error in 0 18 19 20 21 22 32 33 35 36 61 62 63 88 89; do
+for error in 0 18 19 20 21 22 32 33 35 36 61 62 63 88 89 99 101 107 126 128; do
     try null $error
 done
 rm -f "$build/mutant" "$build/mutant.out"

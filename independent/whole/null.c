@@ -71,11 +71,12 @@ static void put_device(struct piece *image, uint32_t window)
     ind_image_encode(&device, image->bytes);
 }
 
-/* One kernel: it stores a word at the window's start. */
+/* One kernel: it stores a word in the window, or stops there. */
 static void put_kernel(struct piece *pack)
 {
     const uint32_t words[] = {
-        1, 0, 2, 2, word_s(ROW_SW, 0, 3, 0), table[ROW_WFI].match
+        1, 0, 3, 3, table[ROW_MEMBAR].match, word_s(ROW_SW, 0, 3, 2 * WORD),
+        table[ROW_WFI].match
     };
 
     for (size_t i = 0; i < sizeof words / sizeof words[0]; i++)

@@ -21,7 +21,8 @@ enum {
     OUTCOMES = WORD * IND_IMAGE_OUTCOMES,
     COUNTS_BYTES = WORD * IND_COUNTS,
     LAST_TAKEN = OUTCOMES - WORD,
-    LAST_OUTCOME = TAKEN + COUNTS_BYTES - WORD
+    LAST_OUTCOME = TAKEN + COUNTS_BYTES - WORD,
+    SHORT_REPORT = WORD * IND_REPORT_ADDRESS /* without a stop */
 };
 
 static void add(uint8_t *word, uint32_t more)
@@ -336,8 +337,31 @@ static void err_turned(struct turned *t)
         err_unserved(t);
         err_uncounted(t);
     }
-    if (t->answer < IND_WRONG_IMAGE)
+    if (t->answer < IND_WRONG_IMAGE) {
         err_edition(t);
+        err_stops(t);
+    }
+}
+
+static uint32_t turn(const struct turned *t, size_t device_len,
+                     uint8_t *report, size_t report_len)
+{
+    return ind_fv_turn(t->device, device_len, t->memory, t->memory_len,
+                       t->ring[0], t->ring_len[0], t->ring[1], t->ring_len[1],
+                       t->ring[2], t->ring_len[2], t->ring[3], t->ring_len[3],
+                       t->pack, t->pack_len, t->pipe, t->pipe_len, report,
+                       report_len);
+}
+
+/* A report without a stop is taken, and written. */
+static uint32_t turn_told_short(struct turned *t, size_t device_len)
+{
+    uint8_t whole[IND_REPORT_BYTES];
+    uint32_t answer = turn(t, device_len, whole, sizeof whole);
+
+    if (answer < IND_WRONG_IMAGE)
+        memcpy(t->report, whole, SHORT_REPORT);
+    return answer;
 }
 
 uint32_t fv_turn(uint8_t *device, size_t device_len, uint8_t *memory,
@@ -350,7 +374,8 @@ uint32_t fv_turn(uint8_t *device, size_t device_len, uint8_t *memory,
     const uint8_t *ring[IND_RINGS] = {ring0, ring1, ring2, ring3};
     size_t ring_len[IND_RINGS] = {ring0_len, ring1_len, ring2_len, ring3_len};
     struct turned t = {
-        {0}, device, memory, pipe, report, memory_len, pipe_len, 0
+        {0}, device, memory, pipe, report, memory_len, pipe_len, ring, pack,
+        ring_len, pack_len, 0
     };
 
     if (MUTANT == 20 && ring3 == NULL) /* refused as too long */
@@ -367,14 +392,14 @@ uint32_t fv_turn(uint8_t *device, size_t device_len, uint8_t *memory,
     int misjudged = MUTANT >= 43 && MUTANT <= 48 && right;
     if (misjudged)
         misjudge(device);
+    if (MUTANT == 129 && report_len == SHORT_REPORT)
+        return turn_told_short(&t, device_len);
     if (right) {
+        keep_memory(memory, memory_len);
         misread_edition(device);
         misjudge_waits(device, ring, ring_len);
     }
-    t.answer = ind_fv_turn(device, device_len, memory, memory_len, ring[0],
-                           ring_len[0], ring[1], ring_len[1], ring[2],
-                           ring_len[2], ring[3], ring_len[3], pack, pack_len,
-                           pipe, pipe_len, report, report_len);
+    t.answer = turn(&t, device_len, report, report_len);
     if (misjudged)
         restore_counts(&t);
     err_turned(&t);

@@ -1,4 +1,4 @@
-/* What self.c and editions.c share: a turn in the archive's place. */
+/* What self.c, editions.c and stops.c share: a turn in the archive's place. */
 #ifndef SELF_H
 #define SELF_H
 
@@ -13,6 +13,9 @@
 struct turned {
     uint8_t before[IND_IMAGE_BYTES], *device, *memory, *pipe, *report;
     size_t memory_len, pipe_len;
+    const uint8_t *const *ring, *pack;
+    const size_t *ring_len;
+    size_t pack_len;
     uint32_t answer;
 };
 
@@ -22,8 +25,12 @@ void misread_edition(uint8_t *image);
 void misjudge_waits(const uint8_t *image, const uint8_t *ring[IND_RINGS],
                     size_t ring_len[IND_RINGS]);
 
+/* Keeps the memory for err_stops. */
+void keep_memory(const uint8_t *memory, size_t memory_len);
+
 /* Errors of a turn, after it. */
 void err_edition(struct turned *t);
+void err_stops(struct turned *t);
 
 /* Errors of a making of edition 1, after it. */
 void err_edition_1_made(uint8_t *device, uint32_t answer);

@@ -57,4 +57,9 @@ void emit_epilogue(struct maker *m);
 /* A few instructions, each with its result stored. */
 void make_brief(struct maker *m);
 
+/* ---- late.c ---- */
+
+/* One thread of the dispatch stops, mostly not the first. */
+void make_late(struct maker *m, uint32_t limit);
+
 #endif

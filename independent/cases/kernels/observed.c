@@ -130,7 +130,7 @@ static void emit_observed_access(struct maker *m, int row)
  * then a word that just misses the list. */
 void make_brief(struct maker *m)
 {
-    for (int32_t n = between(m->c, 2, 6); n > 0; n--) {
+    for (int32_t n = between(m->c, 3, 9); n > 0; n--) {
         int row = row_without_branch(m->c);
         m->bad = n == 1 ? 400 : 0; /* what stops comes last */
         if (mille(m->c, 130))

@@ -171,6 +171,9 @@ uint32_t make_kernel(struct chance *c, enum style style, uint32_t window_length,
     case STYLE_BRIEF:
         make_brief(&m);
         break;
+    case STYLE_LATE:
+        make_late(&m, limit);
+        break;
     default:
         make_miss(&m);
         break;

@@ -15,7 +15,8 @@ enum style {
     STYLE_EXACT,    /* ends or stops at a step near the limit */
     STYLE_FAR,      /* long branches */
     STYLE_BRIEF,    /* few instructions, results stored */
-    STYLE_MISS      /* one word that is not listed */
+    STYLE_MISS,     /* one word that is not listed */
+    STYLE_LATE      /* a thread of some number stops, the others end */
 };
 
 /* Writes one kernel, made for a window of this length and a limit of steps, of

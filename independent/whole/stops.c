@@ -1,0 +1,297 @@
+/* The part of self.c that has to do with stops: errors of where a kernel is
+ * told to have stopped. */
+#include <stdlib.h>
+#include <string.h>
+
+#include "cases/trace.h"
+#include "whole/self.h"
+
+/* Where words stand, in bytes. */
+enum {
+    RING = WORD * IND_REPORT_RING,
+    OUTCOME = WORD * IND_REPORT_OUTCOME,
+    ADDRESS = WORD * IND_REPORT_ADDRESS,
+    PLACE = WORD * IND_REPORT_PLACE,
+    GROUP = WORD * IND_REPORT_GROUP,
+    THREAD = WORD * IND_REPORT_THREAD,
+    STOP_BYTES = IND_REPORT_BYTES - ADDRESS
+};
+
+/* What was handed in, for the dispatch to be run again. */
+static uint8_t memory_before[IND_MEMORY_MOST];
+static size_t memory_kept;
+
+void keep_memory(const uint8_t *memory, size_t memory_len)
+{
+    memory_kept = memory_len <= IND_MEMORY_MOST ? memory_len : 0;
+    if (memory_kept != 0)
+        memcpy(memory_before, memory, memory_kept);
+}
+
+/* A dispatch that ran, once more. */
+struct again {
+    struct ind_ring ring;
+    struct ind_command command;
+    struct ind_kernel kernel;
+    struct trace trace;
+    struct ind_stop stop;
+    uint32_t limit, outcome;
+};
+
+static struct again run_again(const struct turned *t)
+{
+    uint32_t number = ind_get(t->report + RING, WORD);
+    struct ind_device device;
+    struct ind_report report;
+    struct again again;
+
+    ind_image_decode(t->before, &device);
+    ind_report_decode(t->report, &report);
+    again.ring = device.rings[number];
+    again.limit = device.limit;
+    again.outcome = report.outcome;
+    again.stop = report.stop;
+    if (!ind_command_whole(t->ring[number], t->ring_len[number],
+                           again.ring.cursor, &again.command)
+        || !ind_kernel_extent(t->pack, t->pack_len, again.command.arg2,
+                              &again.kernel))
+        abort();
+    const struct ind_window window = {
+        memory_before, again.ring.window_start, again.ring.window_length
+    };
+    trace_dispatch(&again.trace, &again.kernel, &window, &again.command,
+                   again.limit);
+    return again;
+}
+
+/* ---- the address ---- */
+
+/* Of an access that starts inside. */
+static uint32_t wrong_across(const struct again *a, const struct access *access)
+{
+    uint32_t length = a->ring.window_length;
+    int stores = access->instruction.kind == KIND_STORE
+        || access->instruction.kind == KIND_VST;
+
+    switch (MUTANT) {
+    case 90: /* its own */
+        return access->address;
+    case 91: /* its last byte's */
+        return access->address + access->bytes - 1;
+    case 92: /* its end */
+        return access->address + access->bytes;
+    case 93: /* the window's last byte */
+        return length - 1;
+    case 94: /* its own, of stores alone */
+        return stores ? access->address : length;
+    case 95: /* of loads alone */
+        return stores ? length : access->address;
+    case 96: /* of 16 bytes alone */
+        return access->bytes == VECTOR_BYTES ? access->address : length;
+    case 97: /* the word in which the first byte outside lies */
+        return length - (length - access->address) % WORD;
+    default:
+        return length;
+    }
+}
+
+static uint32_t wrong_address(const struct again *a)
+{
+    struct access access = trace_access(&a->trace, &a->kernel);
+    uint32_t told = a->stop.address, length = a->ring.window_length;
+    int wide = access.bytes == VECTOR_BYTES;
+
+    if (access.address < length)
+        told = wrong_across(a, &access);
+    if (MUTANT == 98) /* before the immediate */
+        return wide ? told : told - access.instruction.imm;
+    if (MUTANT == 99) /* always the window's length */
+        return length;
+    if (MUTANT == 100) /* from the memory's start */
+        return told + a->ring.window_start;
+    if (MUTANT == 101 && length == 0)
+        return 0;
+    if (MUTANT == 102) /* as far as a memory can be */
+        return told & (IND_MEMORY_MOST - 1);
+    if (MUTANT == 103 && access.address > UINT32_MAX - access.bytes)
+        return 0; /* the end wraps */
+    return told;
+}
+
+/* The address with another outcome than 13. */
+static uint32_t address_though_none(const struct again *a)
+{
+    switch (a->outcome) {
+    case IND_NOT_LISTED: /* the word */
+        return MUTANT == 104 ? ind_get(a->kernel.code + a->stop.place, WORD)
+                             : 0;
+    case IND_BAD_PLACE:
+        return MUTANT == 105 ? a->stop.place : 0;
+    default: /* the steps */
+        return MUTANT == 106 ? a->limit : 0;
+    }
+}
+
+/* ---- the place ---- */
+
+/* Where a taken branch leads. */
+static uint32_t branch_target(const struct again *a)
+{
+    return a->stop.place
+        + ind_decode(ind_get(a->kernel.code + a->stop.place, WORD)).imm;
+}
+
+static uint32_t wrong_place(const struct again *a)
+{
+    uint32_t place = a->stop.place, end = WORD * a->kernel.words;
+    int spent = a->outcome == IND_STEPS_SPENT;
+
+    switch (MUTANT) {
+    case 107: /* of the next instruction */
+        return place + WORD;
+    case 108: /* in words */
+        return place / WORD;
+    case 109: /* from the code's start */
+        return place + WORD * a->kernel.first;
+    case 110: /* where the branch leads */
+        return a->outcome == IND_BAD_PLACE && place < end ? branch_target(a)
+                                                          : place;
+    case 111: /* past the end: of the last word */
+        return !spent && place == end ? place - WORD : place;
+    case 112: /* the same of 14 */
+        return spent && place == end ? place - WORD : place;
+    case 113: /* with 13 alone */
+        return a->outcome == IND_BAD_ACCESS ? place : 0;
+    default:
+        return place;
+    }
+}
+
+/* ---- group and thread ---- */
+
+static void err_thread(const struct again *a, struct ind_stop *stop)
+{
+    const struct ind_thread *last = &a->trace.last;
+    uint32_t group = stop->group, thread = stop->thread;
+
+    switch (MUTANT) {
+    case 114: /* exchanged */
+        stop->group = thread;
+        stop->thread = group;
+        break;
+    case 115: /* counted through the dispatch */
+        stop->thread = group * a->command.arg1 + thread;
+        break;
+    case 116: /* what the registers hold */
+        stop->group = last->scalar[1];
+        stop->thread = last->scalar[2];
+        break;
+    case 117: /* from 1 */
+        stop->group++;
+        stop->thread++;
+        break;
+    case 118: /* with 13 alone */
+        if (a->outcome != IND_BAD_ACCESS)
+            stop->group = stop->thread = 0;
+        break;
+    default:
+        break;
+    }
+}
+
+static void put_stop(uint8_t *report, const struct ind_stop *stop)
+{
+    ind_put(report + ADDRESS, WORD, stop->address);
+    ind_put(report + PLACE, WORD, stop->place);
+    ind_put(report + GROUP, WORD, stop->group);
+    ind_put(report + THREAD, WORD, stop->thread);
+}
+
+static void err_stopped(struct turned *t)
+{
+    struct again again = run_again(t);
+    struct ind_stop stop = again.stop;
+
+    stop.address = again.outcome == IND_BAD_ACCESS
+        ? wrong_address(&again) : address_though_none(&again);
+    stop.place = wrong_place(&again);
+    err_thread(&again, &stop);
+    put_stop(t->report, &stop);
+}
+
+/* ---- no stop ---- */
+
+/* Of a dispatch that is done: where its last thread ended. */
+static void err_done(struct turned *t)
+{
+    struct again again = run_again(t);
+
+    if (MUTANT == 119) {
+        again.stop.group = again.command.arg0 - 1;
+        again.stop.thread = again.command.arg1 - 1;
+    }
+    if (MUTANT == 120)
+        again.stop.place = again.trace.last.place;
+    put_stop(t->report, &again.stop);
+}
+
+static int ran(const struct turned *t)
+{
+    uint32_t number = ind_get(t->report + RING, WORD);
+    uint32_t outcome = ind_get(t->report + OUTCOME, WORD);
+    const uint8_t *cursor = t->before
+        + WORD * (IND_IMAGE_RING_WORDS * number + IND_IMAGE_CURSOR);
+
+    return t->answer == IND_SERVED
+        && (outcome == IND_DONE || outcome >= IND_NOT_LISTED)
+        && t->ring[number][ind_get(cursor, WORD)] == DISPATCH_1D;
+}
+
+/* Whether what the last stop told is told again. */
+static int told_again(const struct turned *t, uint32_t outcome)
+{
+    int served = t->answer == IND_SERVED;
+
+    switch (MUTANT) {
+    case 121: /* of a dispatch that is done */
+        return ran(t);
+    case 122:
+        return served && outcome == IND_OUTSIDE_WINDOW;
+    case 123:
+        return served && outcome == IND_BAD_DISPATCH;
+    case 124: /* of a faulty header */
+        return served && outcome >= IND_NO_OPCODE && outcome <= IND_NO_SLOT;
+    case 125:
+        return t->answer == IND_IDLE;
+    case 126: /* of a refused turn */
+        return t->answer >= IND_REFUSED_MEMORY;
+    default:
+        return 0;
+    }
+}
+
+static void err_unstopped(struct turned *t, uint32_t outcome,
+                          const uint8_t last[STOP_BYTES])
+{
+    if (ran(t))
+        err_done(t);
+    if (told_again(t, outcome))
+        memcpy(t->report + ADDRESS, last, STOP_BYTES);
+    if (MUTANT == 127) /* left as they were */
+        memset(t->report + ADDRESS, 0xEE, STOP_BYTES);
+}
+
+void err_stops(struct turned *t)
+{
+    static uint8_t last[STOP_BYTES];
+    uint32_t outcome = ind_get(t->report + OUTCOME, WORD);
+
+    if (t->answer == IND_SERVED && outcome >= IND_NOT_LISTED) {
+        memcpy(last, t->report + ADDRESS, STOP_BYTES);
+        err_stopped(t);
+    } else {
+        err_unstopped(t, outcome, last);
+    }
+    if (MUTANT == 128) /* the byte behind the report */
+        t->report[IND_REPORT_BYTES] ^= 1;
+}
