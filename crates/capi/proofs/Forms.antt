@@ -14,7 +14,7 @@ use Rattle.work.specs.declared.work.Performed.{Performed}
 use Rattle.command.specs.Frame.{strideOf}
 use Rattle.command.specs.Header.{commandAt}
 use Rattle.command.specs.Report.{emits}
-use Rattle.work.specs.Work.{Left, leaves, afterDispatch, heldBy}
+use Rattle.work.specs.Work.{Left, leaves, ranAs, afterDispatch, heldBy}
 use Rattle.work.specs.Perform.{performedOf}
 use Rattle.work.proofs.Works.{work-has}
 use Rattle.work.proofs.Performs.{performed-has}
@@ -128,7 +128,7 @@ module _ (ring : List ℕ) (bytes : OfBytes ring) (cursor : ℕ) (full : Bool) (
   Held l = FrameFits (l .performed .frame)
 
   frame-after : Held (performedOf c full ring window frame pack pipe limit)
-  unfolding leaves afterDispatch
+  unfolding leaves afterDispatch ranAs
   frame-after =
       performed-has c full ring window frame pack pipe limit Held
       (λ fine. work-has c ring window frame pack pipe limit Held (λ e. h) (λ e. h) (λ e. h) (λ e. h) (λ e. h) (λ e. h) (λ e. held-fits) h)

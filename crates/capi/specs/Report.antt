@@ -6,15 +6,17 @@ use Rattle.device.specs.declared.turn.Answer.{Answer}
 use Rattle.device.specs.Answer.{answerNumber, valuesOf}
 use Rattle.capi.specs.Image.{bytesOf}
 
--- seven words
+-- eleven words
 abbrev pub reportLength : ℕ
-reportLength = 4 * 7
+reportLength = 4 * 11
 
--- the answer's number, then the ring, outcome, fence, words read and IRQ that are reported, and whether a fence was emitted
+-- the answer's number, then the ring, outcome, fence, words read and IRQ that are reported, whether a fence was emitted, and the
+-- address, place, group and thread of a stop
 unfoldable pub reportWords : Answer → List ℕ
 reportWords answer =
     let v = valuesOf answer in
-    answerNumber answer ∷ v .ring ∷ v .outcome ∷ v .fence ∷ v .words ∷ cond (v .irq) 1 0 ∷ cond (v .emitted) 1 0 ∷ []
+    answerNumber answer ∷ v .ring ∷ v .outcome ∷ v .fence ∷ v .words ∷ cond (v .irq) 1 0 ∷ cond (v .emitted) 1 0
+    ∷ v .site .address ∷ v .site .place ∷ v .site .group ∷ v .site .thread ∷ []
 
 -- its bytes
 unfoldable pub reportBytes : Answer → List ℕ

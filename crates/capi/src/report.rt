@@ -6,7 +6,7 @@ use command::outcome::number;
 use device::turn::Answer;
 use state::refusal::refusal_number;
 
-const REPORT_WORDS: usize = 7;
+const REPORT_WORDS: usize = 11;
 
 pub const REPORT_BYTES: usize = 4 * REPORT_WORDS;
 
@@ -20,10 +20,11 @@ pub fn report_words(answer: Answer) -> [u32; REPORT_WORDS]
     ensures { λ r. ⌜ r ≡ reportWords answer ⌝ }
 {
     match answer {
-        Answer::Refused(why) => [refusal_number(why), 0, 0, 0, 0, 0, 0],
-        Answer::Idle => [1, 0, 0, 0, 0, 0, 0],
+        Answer::Refused(why) => [refusal_number(why), 0, 0, 0, 0, 0, 0, 0, 0, 0, 0],
+        Answer::Idle => [1, 0, 0, 0, 0, 0, 0, 0, 0, 0, 0],
         Answer::Served(report) => {
             let outcome = report.outcome;
+            let site = report.site;
             [
                 0,
                 report.ring,
@@ -32,6 +33,10 @@ pub fn report_words(answer: Answer) -> [u32; REPORT_WORDS]
                 report.words,
                 bit(report.irq),
                 bit(report.emitted),
+                site.address,
+                site.place,
+                site.group,
+                site.thread,
             ]
         }
     }

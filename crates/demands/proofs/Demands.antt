@@ -12,7 +12,8 @@ use Rattle.demands.specs.Targets.{NearByDifference, NothingAsked}
 use Rattle.demands.specs.Idle.{IdleIsDone}
 use Rattle.demands.specs.EachStep.{EachStep}
 use Rattle.demands.specs.OneAnswer.{OneAnswer}
-use Rattle.demands.specs.Table.{Table, LeastLimit, RoundTheWrap, ReadyNoLonger}
+use Rattle.demands.specs.Stops.{OneStop}
+use Rattle.demands.specs.Table.{Table, LeastLimit, WhereStopped, RoundTheWrap, ReadyNoLonger}
 use Rattle.demands.proofs.FourTurns as four
 use Rattle.demands.proofs.Rising as rising
 use Rattle.demands.proofs.Keeps as keeps
@@ -25,6 +26,7 @@ use Rattle.demands.proofs.Counts as counts
 use Rattle.demands.proofs.Bounded as bounded
 use Rattle.demands.proofs.Idle as idle
 use Rattle.demands.proofs.EachStep as steps
+use Rattle.demands.proofs.Stops as stops
 use Rattle.demands.proofs.OneAnswer as one
 use Rattle.demands.proofs.Table as worked
 
@@ -77,6 +79,10 @@ fresh-counts = counts.fresh-counts
 pub each-step : EachStep
 each-step = steps.each-step
 
+-- and no second stop can be told of a dispatch
+pub one-stop : OneStop
+one-stop = stops.one-stop
+
 -- demand 3: a ready ring is served within four turns, in edition 1 from any state, and in either from fresh
 pub four-turns : FourTurns
 four-turns = four.four-turns
@@ -115,9 +121,12 @@ one-answer = one.one-answer
 pub table : Table
 table = worked.table
 
--- and the least limit and the wrap beside them
+-- and the least limit, where a thread stops, and the wrap beside them
 pub least-limit : LeastLimit
 least-limit = worked.least-limit
+
+pub where-stopped : WhereStopped
+where-stopped = worked.where-stopped
 
 pub round-the-wrap : RoundTheWrap
 round-the-wrap = worked.round-the-wrap

@@ -23,5 +23,7 @@ pub mod Demands
 pub mod Demanded
 pub mod Table
 pub mod OneAnswer
+pub mod Reaching
+pub mod Stops
 pub mod OutOfSteps
 pub mod EachStep

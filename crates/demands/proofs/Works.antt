@@ -19,7 +19,7 @@ use Rattle.work.specs.Checks.{slotFault}
 use Rattle.command.specs.Outcome.{outcomeNumber, isDone}
 use Rattle.command.specs.Opcode.{readMem}
 use Rattle.command.specs.Report.{emits, wordsRead}
-use Rattle.work.specs.Work.{Left, leaves, afterDispatch, dispatchedBy, heldBy}
+use Rattle.work.specs.Work.{Left, leaves, ranAs, afterDispatch, dispatchedBy, heldBy}
 use Rattle.work.specs.Perform.{performedOf}
 use Rattle.words.proofs.Choices.{both-left, both-right}
 use Rattle.work.proofs.Performs.{performed-has}
@@ -176,7 +176,7 @@ module _ (c : Command) (full : Bool) (ring window : List ℕ) (frame : Frame) (p
   FrameKept l = (SetsFrame c (outcomeNumber (l .performed .outcome)) → ⊥) → l .performed .frame ≡ frame
 
   pub frame-kept : FrameKept work
-  unfolding leaves afterDispatch
+  unfolding leaves afterDispatch ranAs
   frame-kept =
       performed-has c full ring window frame pack pipe limit FrameKept
       (λ fine.

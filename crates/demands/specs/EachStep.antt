@@ -1,6 +1,6 @@
 -- Demand 2, down to each step: a dispatch that is served is its threads in order, each its steps in order, each
 -- step the instruction's rule.
-use Prim.Native.Nat.{ℕ, suc, _+_, _*_, _≤_, _<_}
+use Prim.Native.Nat.{ℕ, suc, _+_, _*_, _^_, _≤_, _<_}
 use mathlib.Core.Path.{_≡_}
 use mathlib.Core.Bool.{true, false}
 use mathlib.Core.List.{List}
@@ -23,6 +23,7 @@ use Rattle.kernel.specs.declared.step.Stop.{Stop}
 use Rattle.kernel.specs.declared.step.Stop.the-variants.{NotListed, OffTheKernel, OutsideTheWindow, OutOfSteps}
 use Rattle.kernel.specs.declared.thread.Thread.{Thread}
 use Rattle.kernel.specs.declared.step.Progress.the-variants.{Running, Ended, Stopped}
+use Rattle.kernel.specs.declared.dispatch.ThreadStop.{ThreadStop}
 use Rattle.kernel.specs.declared.dispatch.Ran.the-variants.{Stopped as StoppedFor}
 use Rattle.pack.specs.Kernels.{kernelOf, codeWord}
 use Rattle.kernel.specs.Registers.{scalarOf}
@@ -30,6 +31,7 @@ use Rattle.kernel.specs.Thread.{started}
 use Rattle.kernel.specs.Step.{stoppedAs, endsThread, lands, applied, executed, stepOf}
 use Rattle.kernel.specs.Run.{running, stepsOf, runOf}
 use Rattle.kernel.specs.Dispatch.{Dispatched, shown, going, threadOf, threadsOf}
+use Rattle.kernel.specs.Site.{siteOf}
 use Rattle.command.specs.Opcode.{dispatch1D}
 use Rattle.command.specs.Outcome.{outcomeNumber, isDone}
 use Rattle.work.specs.Work.{ranOutcome}
@@ -39,6 +41,7 @@ use Rattle.state.specs.Slots.{isFull}
 use Rattle.state.specs.Device.{ringOf, slotOf}
 use Rattle.device.specs.Turn.{Call, turnOf}
 use Rattle.demands.specs.Calls.{headIn, numberIn, valuesIn, ringServed}
+use Rattle.demands.specs.Stops.{stopNumber, ReachesOut, StoppedThread}
 
 -- ring q's window of the memory that a call lends
 abbrev pub windowIn : Device → Call → ℕ → List ℕ
@@ -63,11 +66,12 @@ threadsIn d call q =
 abbrev pub threadIn : Device → Call → ℕ → ℕ → ℕ → Thread
 threadIn d call q g j = started g j (headIn d call q .arg1) (headIn d call q .arg0)
 
--- the turn leaves what the threads leave: the window is put back, and the outcome is theirs
+-- the turn leaves what the threads leave: the window is put back, and the outcome and where they stopped are theirs
 pub record Leaves (d : Device) (call : Call) (threads : Dispatched) : Type 0 where
   pub memory : turnOf d call .memory ≡ putBack (ringOf d (ringServed d call) .window .start) (threads .window) (call .memory)
   pub pipe : turnOf d call .pipe ≡ call .pipe
   pub outcome : valuesIn d call .outcome ≡ outcomeNumber (ranOutcome (threads .ran))
+  pub site : valuesIn d call .site ≡ siteOf (threads .ran)
 
 -- the threads one after another
 pub record ThreadsInOrder (limit : ℕ) (pack : List ℕ) (kernel : Kernel) (groups threads : ℕ) (window : List ℕ) : Type 0 where
@@ -77,12 +81,12 @@ pub record ThreadsInOrder (limit : ℕ) (pack : List ℕ) (kernel : Kernel) (gro
   pub next : (n : ℕ) (window′ : List ℕ) → threadsOf n limit pack kernel groups threads window ≡ going window′
       → threadsOf (suc n) limit pack kernel groups threads window ≡ threadOf limit pack kernel groups threads n window′
   -- a stop ends the whole dispatch
-  pub stop : (n : ℕ) (why : Stop) → threadsOf n limit pack kernel groups threads window .ran ≡ StoppedFor why
+  pub stop : (n : ℕ) (stop : ThreadStop) → threadsOf n limit pack kernel groups threads window .ran ≡ StoppedFor stop
       → threadsOf (suc n) limit pack kernel groups threads window ≡ threadsOf n limit pack kernel groups threads window
-  -- thread j of group g is number g · threads + j, and its result is its run's
+  -- thread j of group g is number g · threads + j, and its result is its run's; a stop is told with its place, g and j
   pub number : (g j : ℕ) (window′ : List ℕ) → j < threads
       → threadOf limit pack kernel groups threads (g * threads + j) window′
-      ≡ shown (runOf limit pack kernel (started g j threads groups) window′)
+      ≡ shown g j (runOf limit pack kernel (started g j threads groups) window′)
 
 -- a thread's steps one after another
 pub record StepsInOrder (limit : ℕ) (pack : List ℕ) (kernel : Kernel) (t : Thread) (window : List ℕ) : Type 0 where
@@ -119,16 +123,19 @@ pub record StepByRule (limit : ℕ) (pack : List ℕ) (kernel : Kernel) (t : Thr
   -- a taken branch to no place of the kernel
   pub branch : (rd offset : ℕ) → lands (kernel .length) (sum 32 (t .place) offset) ≡ false
       → applied (kernel .length) rd (Go offset) t window ≡ stoppedAs OffTheKernel t window
-  -- a store not wholly in the window
-  pub store : (rd : ℕ) (width : Width) (a x : ℕ) → reachOf (length window) a (bytesOf width) ≡ Outside
-      → applied (kernel .length) rd (Store width a x) t window ≡ stoppedAs OutsideTheWindow t window
-  pub store-quad : (rd a : ℕ) (q : Quad) → reachOf (length window) a 16 ≡ Outside
-      → applied (kernel .length) rd (StoreQuad a q) t window ≡ stoppedAs OutsideTheWindow t window
+  -- a store not wholly in the window: the test's address is passed on
+  pub store : (rd : ℕ) (width : Width) (a x first : ℕ) → reachOf (length window) a (bytesOf width) ≡ Outside first
+      → applied (kernel .length) rd (Store width a x) t window ≡ stoppedAs (OutsideTheWindow first) t window
+  pub store-quad : (rd a : ℕ) (q : Quad) (first : ℕ) → reachOf (length window) a 16 ≡ Outside first
+      → applied (kernel .length) rd (StoreQuad a q) t window ≡ stoppedAs (OutsideTheWindow first) t window
   -- a load not wholly in the window
-  pub load : (rd : ℕ) (width : Width) (imm x y : ℕ) (vectors : List ℕ) → reachOf (length window) (sum 32 x imm) (bytesOf width) ≡ Outside
-      → applied (kernel .length) rd (effectOf (Load width imm) x y vectors window) t window ≡ stoppedAs OutsideTheWindow t window
-  pub load-quad : (rd vd x y : ℕ) (vectors : List ℕ) → reachOf (length window) x 16 ≡ Outside
-      → applied (kernel .length) rd (effectOf (Vld vd) x y vectors window) t window ≡ stoppedAs OutsideTheWindow t window
+  pub load : (rd : ℕ) (width : Width) (imm x y first : ℕ) (vectors : List ℕ) → reachOf (length window) (sum 32 x imm) (bytesOf width) ≡ Outside first
+      → applied (kernel .length) rd (effectOf (Load width imm) x y vectors window) t window ≡ stoppedAs (OutsideTheWindow first) t window
+  pub load-quad : (rd vd x y first : ℕ) (vectors : List ℕ) → reachOf (length window) x 16 ≡ Outside first
+      → applied (kernel .length) rd (effectOf (Vld vd) x y vectors window) t window ≡ stoppedAs (OutsideTheWindow first) t window
+  -- and an address is told of these alone, the first that they reached outside
+  pub only-outside : (first : ℕ) → length window < 2 ^ 32 → stepOf limit pack kernel t window .stepped .progress ≡ Stopped (OutsideTheWindow first)
+      → ReachesOut pack kernel t window first
 
 -- the step limit of a thread that has taken no step: 14 is tied to the state after that many steps
 pub record LimitTied (limit : ℕ) (pack : List ℕ) (kernel : Kernel) (t : Thread) (window : List ℕ) : Type 0 where
@@ -165,9 +172,11 @@ OutOfStepsIn d call q =
     let c = headIn d call q in
     FirstOutOfSteps (d .limit) (call .pack) (kernelIn d call q) (c .arg0) (c .arg1) (windowIn d call q)
 
--- the number of the outcome that a stop gives
-abbrev pub stopNumber : Stop → ℕ
-stopNumber why = outcomeNumber (ranOutcome (StoppedFor why))
+-- the thread that stopped the dispatch that is ring q's head command, told by what the turn reports
+abbrev pub StoppedIn : Device → Call → ℕ → Type 0
+StoppedIn d call q =
+    let c = headIn d call q in
+    StoppedThread (d .limit) (call .pack) (kernelIn d call q) (c .arg0) (c .arg1) (windowIn d call q) (valuesIn d call .outcome) (valuesIn d call .site)
 
 -- a turn on any input, down to each step
 pub record StepByStep (d : Device) (call : Call) : Type 0 where
@@ -187,8 +196,11 @@ pub record StepByStep (d : Device) (call : Call) : Type 0 where
   -- and the turn's outcome is 14 exactly if the first of them to stop is still running after the limit's steps
   pub fourteen : numberIn d call ≡ 0 → Dispatches d call (ringServed d call)
       → (valuesIn d call .outcome ≡ 14) ↔ OutOfStepsIn d call (ringServed d call)
+  -- outcomes 11 to 14 are such a dispatch's alone, and what is reported of the stop is the first stopping thread's
+  pub stopped : numberIn d call ≡ 0 → 11 ≤ valuesIn d call .outcome
+      → Dispatches d call (ringServed d call) × StoppedIn d call (ringServed d call)
   -- the outcomes that the stops give
-  pub numbers : (stopNumber NotListed ≡ 11) × (stopNumber OffTheKernel ≡ 12) × (stopNumber OutsideTheWindow ≡ 13) × (stopNumber OutOfSteps ≡ 14)
+  pub numbers : (stopNumber NotListed ≡ 11) × (stopNumber OffTheKernel ≡ 12) × ((first : ℕ) → stopNumber (OutsideTheWindow first) ≡ 13) × (stopNumber OutOfSteps ≡ 14)
 
 unfoldable pub EachStep : Type 0
 EachStep = (d : Device) (call : Call) → StepByStep d call

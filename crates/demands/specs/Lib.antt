@@ -13,6 +13,7 @@ pub mod Idle
 pub mod Counts
 pub mod Table
 pub mod OneAnswer
+pub mod Stops
 pub mod EachStep
 pub mod Sound
 pub mod Demanded

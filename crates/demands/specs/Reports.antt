@@ -6,6 +6,7 @@ use mathlib.Core.Logic.{_⊎_, _↔_}
 use Rattle.command.specs.declared.header.Command.{Command}
 use Rattle.command.specs.Flags.{irqBit, emitBit}
 use Rattle.command.specs.Opcode.{readMem, setFb}
+use Rattle.kernel.specs.Site.{noSite}
 use Rattle.work.specs.Work.{heldBy}
 use Rattle.state.specs.declared.device.Device.{Device}
 use Rattle.state.specs.Device.{Shaped, SlotsFit, ringOf, slotOf}
@@ -49,6 +50,9 @@ pub record Reported (d : Device) (q : ℕ) (c : Command) (v : Values) (after : D
   pub no-words : (Reads c (v .outcome) → ⊥) → v .words ≡ 0
   -- IRQ is reported exactly if bit 0 is set and the outcome is not 1 to 4
   pub irq : (v .irq ≡ true) ↔ Interrupts c (v .outcome)
+  -- outcomes 0 to 10 tell of no stop, and of 11 to 14 only 13 tells an address; what they tell is `Stops.StoppedThread`
+  pub no-stop : v .outcome ≤ 10 → v .site ≡ noSite
+  pub no-address : (v .outcome ≡ 13 → ⊥) → v .site .address ≡ 0
   -- the cursor moves past the command, and the window stays
   pub cursor : ringOf after q .cursor ≡ ringOf d q .cursor + c .size
   pub window : ringOf after q .window ≡ ringOf d q .window

@@ -13,7 +13,9 @@ use Rattle.instruction.specs.Decode.{opOf}
 use Rattle.instruction.specs.Vectors.{quadOf, broadcast}
 use Rattle.kernel.specs.declared.thread.Thread.{Thread}
 use Rattle.kernel.specs.Thread.{writtenVector}
+use Rattle.kernel.specs.declared.site.Site.{Site}
 use Rattle.kernel.specs.Dispatch.{Dispatched, dispatchOf}
+use Rattle.kernel.specs.Site.{siteAt, noSite, siteOf}
 use Rattle.kernel.specs.Examples.{freshThread, afterWord, scalar, packOf}
 use Rattle.command.specs.declared.frame.Frame.the-variants.{Held}
 use Rattle.command.specs.Outcome.{outcomeNumber}
@@ -60,24 +62,44 @@ unfoldable pub colored : List ℕ → ℕ → List ℕ
 colored [] n = replicate n 0
 colored (a ∷ places) n = withWord (colored places n) a 0xAABBCCDD
 
--- a turn that serves this ring: this outcome, this fence, emitted or not, no words read and no IRQ
-abbrev pub ServedAs : ℕ → ℕ → ℕ → Bool → TurnEnd → Type 0
-ServedAs ring outcome fence emitted end =
+-- a turn that serves this ring: this outcome, this fence, emitted or not, this site, no words read and no IRQ
+abbrev pub ServedWith : ℕ → ℕ → ℕ → Bool → Site → TurnEnd → Type 0
+ServedWith ring outcome fence emitted site end =
     (answerNumber (end .turned .answer) ≡ 0)
-    × (valuesOf (end .turned .answer) ≡ record { ring = ring; outcome = outcome; fence = fence; words = 0; irq = false; emitted = emitted })
+    × (valuesOf (end .turned .answer) ≡ record { ring = ring; outcome = outcome; fence = fence; words = 0; irq = false; emitted = emitted; site = site })
+
+-- where no thread stopped
+abbrev pub ServedAs : ℕ → ℕ → ℕ → Bool → TurnEnd → Type 0
+ServedAs ring outcome fence emitted end = ServedWith ring outcome fence emitted noSite end
 
 -- of ring 0, with no fence
 abbrev pub OutcomeOn0 : ℕ → TurnEnd → Type 0
 OutcomeOn0 outcome end = ServedAs 0 outcome 0 false end
+
+-- of ring 0, with no fence, where a thread stopped
+abbrev pub StopOn0 : ℕ → Site → TurnEnd → Type 0
+StopOn0 outcome site end = ServedWith 0 outcome 0 false site end
 
 -- a dispatch has this outcome, and leaves the window as it was
 pub record EndsWith (number : ℕ) (window : List ℕ) (d : Dispatched) : Type 0 where
   pub outcome : outcomeNumber (ranOutcome (d .ran)) ≡ number
   pub kept : d .window ≡ window
 
--- DISPATCH_1D of one thread in a kernel of one word
+-- DISPATCH_1D of kernel 0 of this pack
+abbrev pub dispatch : ℕ → ℕ → List ℕ → Call
+dispatch groups threads pack = callOf (replicate 64 0) (header 0x20 0 0 0 groups threads 0) [] [] [] pack (replicate 1020 0)
+
+-- that of one thread in a kernel of one word
 abbrev pub oneThread : ℕ → Call
-oneThread w = callOf (replicate 64 0) (header 0x20 0 0 0 1 1 0) [] [] [] (packOf w) (replicate 1020 0)
+oneThread w = dispatch 1 1 (packOf w)
+
+-- the pack of one kernel of two words, and of one of five
+abbrev pub packOf2 : ℕ → ℕ → List ℕ
+packOf2 w0 w1 = wordBytes 1 ++ wordBytes 0 ++ wordBytes 2 ++ wordBytes 2 ++ wordBytes w0 ++ wordBytes w1
+
+abbrev pub packOf5 : ℕ → ℕ → ℕ → ℕ → ℕ → List ℕ
+packOf5 w0 w1 w2 w3 w4 =
+    wordBytes 1 ++ wordBytes 0 ++ wordBytes 5 ++ wordBytes 5 ++ wordBytes w0 ++ wordBytes w1 ++ wordBytes w2 ++ wordBytes w3 ++ wordBytes w4
 
 -- a thread with x in each word of v1, and y in each of v2
 abbrev pub holding : ℕ → ℕ → Thread
@@ -126,14 +148,17 @@ pub record Table : Type 0 where
   pub p6 : (opOf 0x0002930B ≡ Unary Abs) × (scalar 6 (afterWord 0x0002930B (afterWord 0xFFF00297 freshThread)) ≡ 1)
   -- 0600030B (CLZ of s0): 32
   pub p7 : scalar 6 (afterWord 0x0600030B freshThread) ≡ 32
-  -- FE502E0D (SW at -4 from s0): 13, in any dispatch under a limit of at least 1 and as a whole turn
+  -- FE502E0D (SW at -4 from s0): 13, in any dispatch under a limit of at least 1 and as a whole turn; the address is its own,
+  -- 4,294,967,292, at place 0 of thread 0 of group 0
   pub p8 : ((limit groups threads : ℕ) (window : List ℕ) → 1 ≤ limit → 1 ≤ groups → 1 ≤ threads → length window < 2 ^ 32
       → EndsWith 13 window (dispatchOf limit (packOf 0xFE502E0D) 0 groups threads window))
-      × OutcomeOn0 13 (turnOf (framed 64 0) (oneThread 0xFE502E0D))
+      × ((limit groups threads : ℕ) (window : List ℕ) → 1 ≤ limit → 1 ≤ groups → 1 ≤ threads → length window ≤ 4294967292
+      → siteOf (dispatchOf limit (packOf 0xFE502E0D) 0 groups threads window .ran) ≡ siteAt 4294967292 0 0 0)
+      × StopOn0 13 (siteAt 4294967292 0 0 0) (turnOf (framed 64 0) (oneThread 0xFE502E0D))
   -- 0000000E branches to itself: 14, in any dispatch under any limit, and as a whole turn under each limit from 1 to 65,536
   pub p9 : ((limit groups threads : ℕ) (window : List ℕ) → 1 ≤ groups → 1 ≤ threads
       → EndsWith 14 window (dispatchOf limit (packOf 0x0000000E) 0 groups threads window))
-      × ((limit : ℕ) → 1 ≤ limit → limit ≤ 65536 → OutcomeOn0 14 (turnOf (framedUnder limit 64 0) (oneThread 0x0000000E)))
+      × ((limit : ℕ) → 1 ≤ limit → limit ≤ 65536 → StopOn0 14 (siteAt 0 0 0 0) (turnOf (framedUnder limit 64 0) (oneThread 0x0000000E)))
   -- VADD.I8 of 010000FF and 01000001: 02000000; as I16: 02000100 (0020A1AF and 002091AF, v1 and v2 to v3)
   pub p10 : (vector 3 (afterWord 0x0020A1AF (holding 0x010000FF 0x01000001)) ≡ broadcast 0x02000000)
       × (vector 3 (afterWord 0x002091AF (holding 0x010000FF 0x01000001)) ≡ broadcast 0x02000100)
@@ -144,11 +169,24 @@ pub record Table : Type 0 where
 
 -- the least limit: it runs one instruction, and 14 comes before running off the end
 pub record LeastLimit : Type 0 where
-  -- a kernel of FFF00297 (ADDI) alone: 14 under a limit of 1; under one of 2 it runs off the end, 12
-  pub one : OutcomeOn0 14 (turnOf (framedUnder 1 64 0) (oneThread 0xFFF00297))
-  pub two : OutcomeOn0 12 (turnOf (framedUnder 2 64 0) (oneThread 0xFFF00297))
+  -- a kernel of FFF00297 (ADDI) alone: 14 under a limit of 1; under one of 2 it runs off the end, 12; both at the place past it
+  pub one : StopOn0 14 (siteAt 0 4 0 0) (turnOf (framedUnder 1 64 0) (oneThread 0xFFF00297))
+  pub two : StopOn0 12 (siteAt 0 4 0 0) (turnOf (framedUnder 2 64 0) (oneThread 0xFFF00297))
   -- one of 0000700F (WFI) alone ends by the limit's step
   pub wfi : OutcomeOn0 0 (turnOf (framedUnder 1 64 0) (oneThread 0x0000700F))
+
+-- where a thread stops, in a window of 64 bytes, under a limit of 5
+pub record WhereStopped : Type 0 where
+  -- 02502F0D (SW at 62 from s0) begins inside and ends outside: the address is the window's length
+  pub across : StopOn0 13 (siteAt 64 0 0 0) (turnOf (framedUnder 5 64 0) (oneThread 0x02502F0D))
+  -- s5 is 2·group + thread (ADD s5, s1, s1 and ADD s5, s5, s2), then 4 times that (SHL); SW at 42 from s5, and WFI: of 3 groups of 2
+  -- threads only the last thread of the last group reaches out, at place 12
+  pub last : StopOn0 13 (siteAt 64 12 2 1)
+      (turnOf (framedUnder 5 64 0) (dispatch 3 2 (packOf5 0x0010828B 0x0022828B 0x00229297 0x0202A50D 0x0000700F)))
+  -- FFF00297 (ADDI), then 0000020E, a branch to the kernel's end: 12 at the branch's own place
+  pub branch : StopOn0 12 (siteAt 0 4 0 0) (turnOf (framedUnder 5 64 0) (dispatch 1 1 (packOf2 0xFFF00297 0x0000020E)))
+  -- FFF00297 (ADDI), then FFFFFFFF: 11 at its place
+  pub unlisted : StopOn0 11 (siteAt 0 4 0 0) (turnOf (framedUnder 5 64 0) (dispatch 1 1 (packOf2 0xFFF00297 0xFFFFFFFF)))
 
 -- edition 2 from 4,294,967,294: ring 0 emits three times to slot 5, by 4,294,967,295 and 0 to 1; ring 1 waits for 1 and is
 -- served then, not before; then no ring is ready

@@ -1,7 +1,7 @@
 -- A turn is refused, idle or served, and what a served ring has.
 -- Assumes nothing.
 use mathlib.Core.Path.{_≡_, refl, ap}
-use Prim.Native.Nat.{ℕ}
+use Prim.Native.Nat.{ℕ, _≤_}
 use lib.ListN.{length}
 use Rattle.state.specs.declared.device.Device.{Device}
 use Rattle.state.specs.declared.refusal.Refusal.{Refusal}
@@ -11,7 +11,7 @@ use Rattle.state.specs.declared.ready.Picked.{Picked}
 use Rattle.state.specs.declared.ready.Picked.the-variants.{Ring as RingOf, Nobody}
 use Rattle.device.specs.declared.turn.Answer.the-variants.{Refused as RefusedFor, Idle}
 use Rattle.device.specs.Turn.{Call, TurnEnd, ringIn, pickIn, unchanged, servedOf, pickedOf, judgedOf, verdictOn, turnOf, Servable}
-use Rattle.device.proofs.Verdicts.{steady, servable}
+use Rattle.device.proofs.Verdicts.{memory-short, steady, servable}
 use Rattle.state.specs.Ready.{Steady}
 
 -- a turn that serves ring q
@@ -44,6 +44,11 @@ turn-refused d call why e = ap (judgedOf d call) e
 pub call-steady : (d : Device) (call : Call) → verdictOn d call ≡ Sound → Steady d
 unfolding verdictOn
 call-steady d call = steady d (length (call .memory)) (call .ring0) (call .ring1) (call .ring2) (call .ring3) (length (call .pipe)) (call .pack)
+
+-- and a memory of at most 1,048,576 bytes
+pub call-short : (d : Device) (call : Call) → verdictOn d call ≡ Sound → length (call .memory) ≤ 1048576
+unfolding verdictOn
+call-short d call = memory-short d (length (call .memory)) (call .ring0) (call .ring1) (call .ring2) (call .ring3) (length (call .pipe)) (call .pack)
 
 -- what a picked ring has
 pub picked-servable : (d : Device) (call : Call) (q : ℕ) → verdictOn d call ≡ Sound → pickIn d call ≡ RingOf q

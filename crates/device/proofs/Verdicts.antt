@@ -102,6 +102,10 @@ module _ (d : Device) (memory : ℕ) (r0 r1 r2 r3 : List ℕ) (pipe : ℕ) (pack
     cursors = λ q h. leb-true _ _ (both-left _ _ (rings-sound d (tests .1) q h));
   }
 
+  pub memory-short : memory ≤ 1048576
+  unfolding windowsFit memoryFits
+  memory-short = leb-true _ _ (both-left (leb memory 1048576) _ (tests .0))
+
   window-inside : (q : ℕ) → q < 4 → ringOf d q .window .start + ringOf d q .window .length ≤ memory
   unfolding windowsFit memoryFits windowFits
   window-inside q h =

@@ -1,6 +1,8 @@
 -- What an answer stands for: the number and the values that a turn reports, and the number of a making.
 use Prim.Native.Nat.{ℕ}
 use mathlib.Core.Bool.{Bool, false}
+use Rattle.kernel.specs.declared.site.Site.{Site}
+use Rattle.kernel.specs.Site.{noSite}
 use Rattle.command.specs.Outcome.{outcomeNumber}
 use Rattle.device.specs.declared.fresh.Making.{Making}
 use Rattle.device.specs.declared.fresh.Making.the-variants.{Made, Refused as RefusedToMake}
@@ -15,7 +17,8 @@ answerNumber (Refused why) = refusalNumber why
 answerNumber Idle = 1
 answerNumber (Served r) = 0
 
--- what is reported of a turn: ring, outcome, fence, words read, IRQ, and apart from the fence's number whether one was emitted
+-- what is reported of a turn: ring, outcome, fence, words read, IRQ, apart from the fence's number whether one was emitted, and where
+-- a kernel's thread stopped: address, place, group and thread
 pub record Values : Type 0 where
   pub ring : ℕ
   pub outcome : ℕ
@@ -23,10 +26,11 @@ pub record Values : Type 0 where
   pub words : ℕ
   pub irq : Bool
   pub emitted : Bool
+  pub site : Site
 
--- 0 for ring, outcome, fence and words read, no IRQ, and no fence emitted
+-- 0 for ring, outcome, fence and words read, no IRQ, no fence emitted, and no stop
 abbrev pub noValues : Values
-noValues = record { ring = 0; outcome = 0; fence = 0; words = 0; irq = false; emitted = false }
+noValues = record { ring = 0; outcome = 0; fence = 0; words = 0; irq = false; emitted = false; site = noSite }
 
 -- those of a report
 abbrev pub reportValues : Report → Values
@@ -37,6 +41,7 @@ reportValues r = record {
   words = r .words;
   irq = r .irq;
   emitted = r .emitted;
+  site = r .site;
 }
 
 -- an idle or refused turn reports no values

@@ -97,6 +97,7 @@ reportOf d q c p = record {
   words = wordsRead c (p .outcome);
   irq = interrupts c (p .outcome);
   emitted = emits c (p .outcome);
+  site = p .site;
 }
 
 -- the device and the report once ring q's command has had its outcome

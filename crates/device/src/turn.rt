@@ -12,6 +12,7 @@ use command::outcome::Outcome;
 use command::report::emits_fence;
 use command::report::raises_irq;
 use command::report::words_read;
+use kernel::site::Site;
 use state::device::Device;
 use state::device::Ring;
 use state::ready::Picked;
@@ -37,6 +38,8 @@ pub struct Report {
     pub irq: bool,
     // Whether a fence was emitted: its number may be 0.
     pub emitted: bool,
+    // Where a kernel's thread stopped, if one did.
+    pub site: Site,
 }
 
 pub enum Answer {
@@ -97,6 +100,7 @@ fn report_of(d: Device, q: u32, command: Command, done: Performed) -> Report
     ensures { λ r. ⌜ r ≡ reportOf d q command done ⌝ }
 {
     let outcome = done.outcome;
+    let site = done.site;
     let emitting = emits_fence(command, outcome);
     let slot = d.slot(command.rdst);
     Report {
@@ -106,6 +110,7 @@ fn report_of(d: Device, q: u32, command: Command, done: Performed) -> Report
         words: words_read(command, outcome),
         irq: raises_irq(command, outcome),
         emitted: emitting,
+        site,
     }
 }
 

@@ -15,16 +15,16 @@ use Rattle.instruction.specs.Effect.{loadedEffect, loadedQuadEffect, bra
 
 module _ (P : Effect → Type 0) where
   -- a load puts a scalar or is outside
-  pub of-load : (l : Loaded) → ((x : ℕ) → P (Put x)) → P Outside → P (loadedEffect l)
+  pub of-load : (l : Loaded) → ((x : ℕ) → P (Put x)) → ((first : ℕ) → P (Outside first)) → P (loadedEffect l)
   unfolding loadedEffect
   of-load (Value x) put outside = put x
-  of-load NoValue put outside = outside
+  of-load (NoValue first) put outside = outside first
 
   -- a load of four words puts them or is outside
-  pub of-quad-load : (vd : ℕ) (l : LoadedQuad) → ((q : Quad) → P (PutQuad vd q)) → P Outside → P (loadedQuadEffect vd l)
+  pub of-quad-load : (vd : ℕ) (l : LoadedQuad) → ((q : Quad) → P (PutQuad vd q)) → ((first : ℕ) → P (Outside first)) → P (loadedQuadEffect vd l)
   unfolding loadedQuadEffect
   of-quad-load vd (Words q) put outside = put q
-  of-quad-load vd NoWords put outside = outside
+  of-quad-load vd (NoWords first) put outside = outside first
 
   -- a branch is taken or not
   pub of-branch : (c : Cond) (offset x y : ℕ) → P (Go offset) → P Next → P (branchEffect c offset x y)

@@ -30,7 +30,7 @@ Tells row (Go offset) = Neither row
 Tells row Next = Neither row
 Tells row End = (row .writes ≡ false) × (row .endsThread ≡ true)
 Tells row NotListed = Neither row
-Tells row Outside = row .endsThread ≡ false
+Tells row (Outside first) = row .endsThread ≡ false
 
 module _ (vectors window : List ℕ) where
   -- values that are equal where they are read have the same effect
@@ -61,13 +61,13 @@ module _ (vectors window : List ℕ) where
   told (AluImm o imm) x y = (refl, refl)
   told (Lui imm) x y = (refl, refl)
   told (Branch c offset) x y = of-branch (Tells (operandsOf (Branch c offset))) c offset x y (refl, refl) (refl, refl)
-  told (Load width imm) x y = of-load (Tells (operandsOf (Load width imm))) (loadOf window width (sum 32 x imm)) (λ v. (refl, refl)) refl
+  told (Load width imm) x y = of-load (Tells (operandsOf (Load width imm))) (loadOf window width (sum 32 x imm)) (λ v. (refl, refl)) (λ first. refl)
   told (Store width imm) x y = (refl, refl)
   told Membar x y = (refl, refl)
   told Wfi x y = (refl, refl)
   told (Vector op ty vd v1 v2) x y = (refl, refl)
   told (Vbcast vd) x y = (refl, refl)
   told (Vextr v1) x y = (refl, refl)
-  told (Vld vd) x y = of-quad-load (Tells (operandsOf (Vld vd))) vd (loadQuadOf window x) (λ q. (refl, refl)) refl
+  told (Vld vd) x y = of-quad-load (Tells (operandsOf (Vld vd))) vd (loadQuadOf window x) (λ q. (refl, refl)) (λ first. refl)
   told (Vst v2) x y = (refl, refl)
   told Unlisted x y = (refl, refl)

@@ -20,12 +20,12 @@ use Rattle.instruction.specs.Vectors.{quadOf, lanesOfQuads, broadcast}
 -- what was read goes to scalar rd, unless the load is not wholly in the window
 unfoldable pub loadedEffect : Loaded → Effect
 loadedEffect (Value x) = Put x
-loadedEffect NoValue = Outside
+loadedEffect (NoValue first) = Outside first
 
 -- the same for 16 bytes to a vector register
 unfoldable pub loadedQuadEffect : ℕ → LoadedQuad → Effect
 loadedQuadEffect vd (Words q) = PutQuad vd q
-loadedQuadEffect vd NoWords = Outside
+loadedQuadEffect vd (NoWords first) = Outside first
 
 -- a branch is taken if its comparison holds
 unfoldable pub branchEffect : Cond → ℕ → ℕ → ℕ → Effect

@@ -33,8 +33,8 @@ pub enum Effect {
     End,
     // The word is not in the list.
     NotListed,
-    // A load not wholly in the window.
-    Outside,
+    // A load not wholly in the window, and the first address that is not inside.
+    Outside(u32),
 }
 
 fn loaded_effect(loaded: Loaded) -> Effect
@@ -42,7 +42,7 @@ fn loaded_effect(loaded: Loaded) -> Effect
 {
     match loaded {
         Loaded::Value(x) => Effect::Put(x),
-        Loaded::Outside => Effect::Outside,
+        Loaded::Outside(first) => Effect::Outside(first),
     }
 }
 
@@ -51,7 +51,7 @@ fn loaded_quad_effect(vd: u32, loaded: LoadedQuad) -> Effect
 {
     match loaded {
         LoadedQuad::Words(q) => Effect::PutQuad(vd, q),
-        LoadedQuad::Outside => Effect::Outside,
+        LoadedQuad::Outside(first) => Effect::Outside(first),
     }
 }
 

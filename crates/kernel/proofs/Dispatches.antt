@@ -8,7 +8,7 @@ use native.Mathlib.Numerals.{add-one}
 use Rattle.memory.specs.After.{after}
 use Rattle.memory.proofs.After.{after-stays}
 use Rattle.pack.specs.declared.kernels.Kernel.{Kernel}
-use Rattle.kernel.specs.declared.step.Stop.{Stop}
+use Rattle.kernel.specs.declared.dispatch.ThreadStop.{ThreadStop}
 use Rattle.kernel.specs.declared.dispatch.Ran.{Ran}
 use Rattle.kernel.specs.declared.dispatch.Ran.the-variants.{Done, Stopped}
 use Rattle.kernel.specs.Dispatch.{ShowsRan, ifDone, going, threadOf, threadMore, threadsOf}
@@ -36,13 +36,13 @@ module _ (limit : ℕ) (pack : List ℕ) (kernel : Kernel) (groups threads : ℕ
   still-going n window′ window″ r e s done = one-thread-more n window′ e ∙ (rw (← done, s .answer, s .window))
 
   -- a stop ends the whole dispatch
-  pub stop-stays : (n m : ℕ) (window′ window″ : List ℕ) (r : Ran) (why : Stop) → n + 1 ≤ m
+  pub stop-stays : (n m : ℕ) (window′ window″ : List ℕ) (r : Ran) (stop : ThreadStop) → n + 1 ≤ m
       → threadsOf n limit pack kernel groups threads window ≡ going window′
-      → ShowsRan r window″ (threadOf limit pack kernel groups threads n window′) → r ≡ Stopped why
-      → ShowsRan (Stopped why) window″ (threadsOf m limit pack kernel groups threads window)
+      → ShowsRan r window″ (threadOf limit pack kernel groups threads n window′) → r ≡ Stopped stop
+      → ShowsRan (Stopped stop) window″ (threadsOf m limit pack kernel groups threads window)
   unfolding threadsOf threadMore ifDone
-  stop-stays n m window′ window″ r why h e s stopped =
+  stop-stays n m window′ window″ r stop h e s stopped =
       let here = one-thread-more n window′ e in
-      let at-stop : threadsOf (n + 1) limit pack kernel groups threads window .ran ≡ Stopped why = rw (here, ← s .answer, stopped) in
+      let at-stop : threadsOf (n + 1) limit pack kernel groups threads window .ran ≡ Stopped stop = rw (here, ← s .answer, stopped) in
       let stays = after-stays (threadMore limit pack kernel groups threads) (going window) (n + 1) m h (λ i. rw at-stop) in
       rw (stays, here) (record { answer = rw (← stopped) (s .answer); window = s .window })

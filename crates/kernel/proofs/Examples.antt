@@ -13,7 +13,7 @@ use Rattle.words.specs.declared.lanes.LaneType.the-variants.{I16, I8}
 use Rattle.words.specs.Lanes.{lanesOf, lanewise}
 use Rattle.words.specs.Counts.{firstSet}
 use Rattle.words.specs.Arithmetic.{magnitude}
-use Rattle.memory.specs.Address.{ifInside}
+use Rattle.memory.specs.Address.{firstOutside, ifInside}
 use Rattle.memory.specs.Place.{wordAt}
 use Rattle.memory.proofs.Reach.{reach-outside}
 use Rattle.instruction.specs.declared.list.Op.the-variants.{Alu, Unary, AluImm}
@@ -34,7 +34,7 @@ use Rattle.kernel.specs.Registers.{scalarOf, withScalar, startRegisters}
 use Rattle.kernel.specs.Thread.{started, written, advanced, movedTo}
 use Rattle.kernel.specs.Step.{stops, goesOn, lands, branched, afterStore, applied, executed, stepOf}
 use Rattle.kernel.specs.Run.{running, stepsOf}
-use Rattle.kernel.specs.Dispatch.{ranOf, shown, dispatchOf}
+use Rattle.kernel.specs.Dispatch.{Dispatched, ranOf, shown, dispatchOf}
 use Rattle.kernel.specs.Examples.{freshThread, afterWord, scalar, packOf}
 use Rattle.kernel.proofs.Runs.{no-step}
 use Rattle.kernel.proofs.Steps.{at-the-limit}
@@ -67,22 +67,26 @@ abbrev theKernel : Kernel
 theKernel = record { start = 16; length = 4 }
 
 module _ (limit groups threads : ℕ) (window : List ℕ) where
+  -- a dispatch whose first thread stopped at this place and left the window as it was
+  abbrev stoppedFirst : Stop → ℕ → Dispatched
+  stoppedFirst why place = record { ran = StoppedFor (record { why = why; place = place; group = 0; thread = 0 }); window = window }
+
   -- a dispatch whose first thread is stopped by a step that finds the window as it was
   stopped : (w n : ℕ) (t : Thread) (why : Stop) → 1 ≤ groups → 1 ≤ threads → n ≤ limit
       → stepsOf n limit (packOf w) theKernel (started 0 0 threads groups) window ≡ running t window
       → stepOf limit (packOf w) theKernel t window .stepped .progress ≡ Stopped why
-      → dispatchOf limit (packOf w) 0 groups threads window ≡ record { ran = StoppedFor why; window = window }
+      → dispatchOf limit (packOf w) 0 groups threads window ≡ stoppedFirst why (t .place)
   unfolding dispatchOf shown ranOf stops kernelOf kernelCount firstWord kernelWords wordAt
   stopped w n t why hg ht h e stop =
       let run = stopped-run limit (packOf w) theKernel (started 0 0 threads groups) window n t window why h e stop in
-      first-stops limit (packOf w) theKernel groups threads window (groups * threads) why (mul-pos hg ht) (rw run) ∙ (rw run)
+      first-stops limit (packOf w) theKernel groups threads window (groups * threads) (record { why = why; place = t .place; group = 0; thread = 0 }) (mul-pos hg ht) (rw run) ∙ (rw run)
 
-  -- FE502E0D (SW at -4 from s0): 13, and nothing is stored
+  -- FE502E0D (SW at -4 from s0): 13 at place 0, with the first address that is not inside, and nothing is stored
   pub p8 : 1 ≤ limit → 1 ≤ groups → 1 ≤ threads → ListN.length window < 2 ^ 32
-      → dispatchOf limit (packOf 0xFE502E0D) 0 groups threads window ≡ record { ran = StoppedFor OutsideTheWindow; window = window }
+      → dispatchOf limit (packOf 0xFE502E0D) 0 groups threads window ≡ stoppedFirst (OutsideTheWindow (firstOutside (ListN.length window) 4294967292)) 0
   unfolding started stepOf executed decoded opOf storeRow effectOf applied afterStore scalarOf ifInside stops wordAt
   p8 hl hg ht small =
-      stopped 0xFE502E0D 0 (started 0 0 threads groups) OutsideTheWindow hg ht (omega arith) (no-step _ _ _ _ _)
+      stopped 0xFE502E0D 0 (started 0 0 threads groups) (OutsideTheWindow (firstOutside (ListN.length window) 4294967292)) hg ht (omega arith) (no-step _ _ _ _ _)
       (rw (lt-leb limit 0 hl, reach-outside (ListN.length window) 4294967292 4 (omega arith)))
 
   -- the thread after n branches to itself
@@ -101,9 +105,9 @@ module _ (limit groups threads : ℕ) (window : List ℕ) where
       ∙ (rw (spins n (omega arith)) (more-running limit _ theKernel (running (spun n) window) refl))
       ∙ spin n h
 
-  -- 0000000E branches to itself: 14
+  -- 0000000E branches to itself: 14 at place 0
   pub p9 : 1 ≤ groups → 1 ≤ threads
-      → dispatchOf limit (packOf 0x0000000E) 0 groups threads window ≡ record { ran = StoppedFor OutOfSteps; window = window }
+      → dispatchOf limit (packOf 0x0000000E) 0 groups threads window ≡ stoppedFirst OutOfSteps 0
   unfolding started stops
   p9 hg ht =
       stopped 0x0000000E limit (spun limit) OutOfSteps hg ht (omega arith) (spins limit (omega arith))

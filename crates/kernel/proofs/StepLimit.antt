@@ -68,6 +68,10 @@ module _ (limit : ℕ) (pack : List ℕ) (kernel : Kernel) where
       pub running-took : (n : ℕ) → state n .stepped .progress ≡ Running → state n .stepped .thread .steps ≡ n
       running-took n e = (rw e at (state-took n)) .0
 
+      -- and that is no more than the limit
+      pub running-within : (n : ℕ) → state n .stepped .progress ≡ Running → n ≤ limit
+      running-within n e = (rw e at (state-took n)) .1
+
       -- no thread is running at the end of its run
       pub run-not-running : end .stepped .progress ≡ Running → ⊥
       unfolding runOf

@@ -56,8 +56,8 @@ pub record StepCases (P : State → Type 0) (limit length : ℕ) (t : Thread) (w
 unlisted-is-not-14 : NotListed ≡ OutOfSteps → ⊥
 unlisted-is-not-14 e = let z : _≡_ {A = ℕ} 0 1 = cc in omega arith
 
-outside-is-not-14 : OutsideTheWindow ≡ OutOfSteps → ⊥
-outside-is-not-14 e = let z : _≡_ {A = ℕ} 0 1 = cc in omega arith
+outside-is-not-14 : (first : ℕ) → OutsideTheWindow first ≡ OutOfSteps → ⊥
+outside-is-not-14 first e = let z : _≡_ {A = ℕ} 0 1 = cc in omega arith
 
 off-is-not-14 : OffTheKernel ≡ OutOfSteps → ⊥
 off-is-not-14 e = let z : _≡_ {A = ℕ} 0 1 = cc in omega arith
@@ -65,11 +65,11 @@ off-is-not-14 e = let z : _≡_ {A = ℕ} 0 1 = cc in omega arith
 module _ (P : State → Type 0) (t : Thread) (window : List ℕ) where
   -- a store is done inside the window or stops the thread
   of-store : (reach : Reach) (stored : List ℕ)
-      → P (record { stepped = goesOn t; window = ifInside reach stored window }) → P (stoppedAs OutsideTheWindow t window)
-      → P (record { stepped = afterStore reach t; window = ifInside reach stored window })
+      → P (record { stepped = goesOn t; window = ifInside reach stored (λ first. window) }) → ((first : ℕ) → P (stoppedAs (OutsideTheWindow first) t window))
+      → P (record { stepped = afterStore reach t; window = ifInside reach stored (λ first. window) })
   unfolding afterStore ifInside
   of-store Inside stored inside outside = inside
-  of-store Outside stored inside outside = outside
+  of-store (Outside first) stored inside outside = outside first
 
   -- a taken branch lands or stops the thread
   of-branch : (length place : ℕ) (multiple inside : Bool) → eqb (place % 4) 0 ≡ multiple → ltb place length ≡ inside
@@ -87,17 +87,17 @@ module _ (P : State → Type 0) (t : Thread) (window : List ℕ) where
     of-effect (PutQuad vd q) = cases .next below (writtenVector t (vd % 32) q) refl refl
     of-effect (Store width a x) =
         of-store (reachOf (ListN.length window) a (bytesOf width)) (withValue window width a x) (cases .stored below width a x)
-        (cases .stopped OutsideTheWindow (λ e. absurd (outside-is-not-14 e)))
+        (λ first. cases .stopped (OutsideTheWindow first) (λ e. absurd (outside-is-not-14 first e)))
     of-effect (StoreQuad a q) =
         of-store (reachOf (ListN.length window) a 16) (withQuad window a q) (cases .stored-quad below a q)
-        (cases .stopped OutsideTheWindow (λ e. absurd (outside-is-not-14 e)))
+        (λ first. cases .stopped (OutsideTheWindow first) (λ e. absurd (outside-is-not-14 first e)))
     of-effect (Go offset) =
         of-branch length (sum 32 (t .place) offset) _ _ refl refl (cases .branched below (sum 32 (t .place) offset))
         (cases .stopped OffTheKernel (λ e. absurd (off-is-not-14 e)))
     of-effect Next = cases .next below t refl refl
     of-effect End = cases .ended below
     of-effect WordNotListed = cases .stopped NotListed (λ e. absurd (unlisted-is-not-14 e))
-    of-effect LoadOutside = cases .stopped OutsideTheWindow (λ e. absurd (outside-is-not-14 e))
+    of-effect (LoadOutside first) = cases .stopped (OutsideTheWindow first) (λ e. absurd (outside-is-not-14 first e))
 
 module _ (limit : ℕ) (pack : List ℕ) (kernel : Kernel) (t : Thread) (window : List ℕ) where
   -- a thread that already took the limit's steps stops with 14

@@ -74,12 +74,15 @@ bytes : KeptByStores Bytes
 bytes = record { store = λ m width a v h. store-bytes m h width a v; quad = λ m a q h. store-quad-bytes m h a q }
 
 module _ (limit : ℕ) (pack : List ℕ) (window : List ℕ) where
-  -- no step, run or dispatch changes the window's length
+  -- no step, run, threads or dispatch change the window's length
   pub step-length : (kernel : Kernel) (t : Thread) → length (stepOf limit pack kernel t window .window) ≡ length window
   step-length kernel t = step-keeps _ (long (length window)) limit pack kernel t window refl
 
   pub run-length : (kernel : Kernel) (t : Thread) → length (runOf limit pack kernel t window .window) ≡ length window
   run-length kernel t = run-keeps _ (long (length window)) limit pack kernel t window refl
+
+  pub threads-length : (n : ℕ) (kernel : Kernel) (groups threads : ℕ) → length (threadsOf n limit pack kernel groups threads window .window) ≡ length window
+  threads-length n kernel groups threads = threads-keep _ (long (length window)) limit pack kernel groups threads n window refl
 
   pub dispatch-length : (k groups threads : ℕ) → length (dispatchOf limit pack k groups threads window .window) ≡ length window
   dispatch-length k groups threads = dispatch-keeps _ (long (length window)) limit pack k groups threads window refl

@@ -6,6 +6,7 @@ use Rattle.memory.specs.After.{after}
 use Rattle.pack.specs.declared.kernels.Kernel.{Kernel}
 use Rattle.kernel.specs.declared.step.Progress.{Progress}
 use Rattle.kernel.specs.declared.step.Progress.the-variants.{Running, Ended, Stopped}
+use Rattle.kernel.specs.declared.dispatch.ThreadStop.{ThreadStop}
 use Rattle.kernel.specs.declared.dispatch.Ran.{Ran}
 use Rattle.kernel.specs.declared.dispatch.Ran.the-variants.{Done, Stopped as StoppedFor}
 use Rattle.pack.specs.Kernels.{kernelOf}
@@ -23,25 +24,25 @@ pub record ShowsRan (r : Ran) (left : List ℕ) (d : Dispatched) : Type 0 where
   pub answer : r ≡ d .ran
   pub window : left ≡ d .window
 
--- what a thread's progress means for its dispatch
-unfoldable pub ranOf : Progress → Ran
-ranOf Running = Done
-ranOf Ended = Done
-ranOf (Stopped why) = StoppedFor why
+-- what a thread's progress means for its dispatch: a stop is told with the thread's place, its group and its number there
+unfoldable pub ranOf : Progress → ℕ → ℕ → ℕ → Ran
+ranOf Running place group thread = Done
+ranOf Ended place group thread = Done
+ranOf (Stopped why) place group thread = StoppedFor (record { why = why; place = place; group = group; thread = thread })
 
--- what a dispatch sees of a thread's state
-unfoldable pub shown : State → Dispatched
-shown s = record { ran = ranOf (s .stepped .progress); window = s .window }
+-- what a dispatch sees of the state of a thread of a group
+unfoldable pub shown : ℕ → ℕ → State → Dispatched
+shown group thread s = record { ran = ranOf (s .stepped .progress) (s .stepped .thread .place) group thread; window = s .window }
 
 -- the first of two while no thread has stopped, else the second
 unfoldable pub ifDone : {A : Type 0} → Ran → A → A → A
 ifDone Done x y = x
-ifDone (StoppedFor why) x y = y
+ifDone (StoppedFor stop) x y = y
 
 -- thread i of the dispatch is thread i % threads of group i / threads
 unfoldable pub threadOf : ℕ → List ℕ → Kernel → ℕ → ℕ → ℕ → List ℕ → Dispatched
 threadOf limit pack kernel groups threads i window =
-    shown (runOf limit pack kernel (started (i / threads) (i % threads) threads groups) window)
+    shown (i / threads) (i % threads) (runOf limit pack kernel (started (i / threads) (i % threads) threads groups) window)
 
 -- one thread more; a stop ends the whole dispatch
 unfoldable pub threadMore : ℕ → List ℕ → Kernel → ℕ → ℕ → ℕ → Dispatched → Dispatched

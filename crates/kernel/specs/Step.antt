@@ -63,7 +63,7 @@ branched length offset t =
 
 -- a store not wholly in the window stops the thread
 unfoldable pub afterStore : Reach → Thread → Stepped
-afterStore reach t = ifInside reach (goesOn t) (stops OutsideTheWindow t)
+afterStore reach t = ifInside reach (goesOn t) (λ first. stops (OutsideTheWindow first) t)
 
 -- an effect done to a thread and its window, in a kernel of `length` bytes
 unfoldable pub applied : ℕ → ℕ → Effect → Thread → List ℕ → State
@@ -81,7 +81,7 @@ applied length rd (Go offset) t window = record { stepped = branched length offs
 applied length rd Next t window = record { stepped = goesOn t; window = window }
 applied length rd End t window = record { stepped = endsThread t; window = window }
 applied length rd WordNotListed t window = stoppedAs NotListed t window
-applied length rd LoadOutside t window = stoppedAs OutsideTheWindow t window
+applied length rd (LoadOutside first) t window = stoppedAs (OutsideTheWindow first) t window
 
 -- an instruction on the values of its operands
 unfoldable pub executed : ℕ → Instr → Thread → List ℕ → State

@@ -9,20 +9,33 @@ use crate::thread::Thread;
 use pack::kernels::Kernel;
 use pack::kernels::kernel_at;
 
+// A thread's stop: why, where the thread stood, in bytes from the kernel's start, its group and its number in the group.
+pub struct ThreadStop {
+    pub why: Stop,
+    pub place: u32,
+    pub group: u32,
+    pub thread: u32,
+}
+
 pub enum Ran {
     // Each thread came to its end.
     Done,
     // A thread stopped, and no thread after it ran.
-    Stopped(Stop),
+    Stopped(ThreadStop),
 }
 
-fn ran_of(progress: Progress) -> Ran
-    ensures { λ r. ⌜ r ≡ ranOf progress ⌝ }
+fn ran_of(progress: Progress, place: u32, group: u32, thread: u32) -> Ran
+    ensures { λ r. ⌜ r ≡ ranOf progress place group thread ⌝ }
 {
     match progress {
         Progress::Running => Ran::Done,
         Progress::Ended => Ran::Done,
-        Progress::Stopped(why) => Ran::Stopped(why),
+        Progress::Stopped(why) => Ran::Stopped(ThreadStop {
+            why,
+            place,
+            group,
+            thread,
+        }),
     }
 }
 
@@ -40,11 +53,11 @@ fn run_thread(
     ensures { λ r. ⌜ ShowsRan r (now (window .exit)) (threadOf limit (now (pack .entry)) kernel groups threads i (now (window .entry))) ⌝ }
 {
     let group = (i / threads as u64) as u32;
-    let place = (i % threads as u64) as u32;
-    let thread = Thread::start(group, place, threads, groups);
-    let end = run(thread, pack, kernel, window, limit);
+    let thread = (i % threads as u64) as u32;
+    let start = Thread::start(group, thread, threads, groups);
+    let end = run(start, pack, kernel, window, limit);
     let progress = end.progress;
-    ran_of(progress)
+    ran_of(progress, end.thread.place, group, thread)
 }
 
 pub fn dispatch(
@@ -64,7 +77,7 @@ pub fn dispatch(
         let ran = run_thread(pack, kernel, groups, threads, i, limit, window);
         match ran {
             Ran::Done => {}
-            Ran::Stopped(why) => return Ran::Stopped(why),
+            Ran::Stopped(stop) => return Ran::Stopped(stop),
         }
         i += 1;
     }

@@ -2,5 +2,6 @@
 pub mod dispatch;
 pub mod registers;
 pub mod run;
+pub mod site;
 pub mod step;
 pub mod thread;

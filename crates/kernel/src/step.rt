@@ -21,8 +21,8 @@ pub enum Stop {
     NotListed,
     // A taken branch out of the kernel or off a multiple of 4, or running off its end.
     OffTheKernel,
-    // A load or store not wholly in the window.
-    OutsideTheWindow,
+    // A load or store not wholly in the window, and the first address that is not inside.
+    OutsideTheWindow(u32),
     // The thread already took the limit's steps.
     OutOfSteps,
 }
@@ -88,7 +88,7 @@ fn after_store(thread: Thread, reach: Reach) -> Stepped
 {
     match reach {
         Reach::Inside => go_on(thread),
-        Reach::Outside => stopped(thread, Stop::OutsideTheWindow),
+        Reach::Outside(first) => stopped(thread, Stop::OutsideTheWindow(first)),
     }
 }
 
@@ -105,7 +105,7 @@ fn apply(thread: Thread, rd: u32, effect: Effect, length: usize, window: &mut [u
         Effect::Next => go_on(thread),
         Effect::End => end(thread),
         Effect::NotListed => stopped(thread, Stop::NotListed),
-        Effect::Outside => stopped(thread, Stop::OutsideTheWindow),
+        Effect::Outside(first) => stopped(thread, Stop::OutsideTheWindow(first)),
     }
 }
 

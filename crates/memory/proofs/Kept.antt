@@ -23,10 +23,10 @@ abbrev pub Keeps : (List ℕ → Type 0) → ℕ → ℕ → Type 0
 Keeps P low high = (j b : ℕ) (x : List ℕ) → low ≤ j → j < high → b < 2 ^ 8 → P x → P (set x j b)
 
 -- the choice by reach keeps what both sides have
-pub if-inside-keeps : (P : List ℕ → Type 0) (r : Reach) (x y : List ℕ) → P x → P y → P (ifInside r x y)
+pub if-inside-keeps : (P : List ℕ → Type 0) (r : Reach) (x y : List ℕ) → P x → P y → P (ifInside r x (λ first. y))
 unfolding ifInside
 if-inside-keeps P Inside x y hx hy = hx
-if-inside-keeps P Outside x y hx hy = hy
+if-inside-keeps P (Outside first) x y hx hy = hy
 
 module _ (P : List ℕ → Type 0) where
   -- fewer places keep what more places keep

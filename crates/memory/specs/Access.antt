@@ -34,4 +34,4 @@ loadOf m width a = ifInside (reachOf (length m) a (bytesOf width)) (Value (value
 
 -- the window after a store; it is as it was where the bytes do not lie inside
 unfoldable pub storeOf : List ℕ → Width → ℕ → ℕ → List ℕ
-storeOf m width a v = ifInside (reachOf (length m) a (bytesOf width)) (withValue m width a v) m
+storeOf m width a v = ifInside (reachOf (length m) a (bytesOf width)) (withValue m width a v) (λ first. m)

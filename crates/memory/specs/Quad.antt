@@ -22,4 +22,4 @@ loadQuadOf m a = ifInside (reachOf (length m) a 16) (Words (quadAt m a)) Outside
 
 -- the window after a store; it is as it was where the bytes do not lie inside
 unfoldable pub storeQuadOf : List ℕ → ℕ → Quad → List ℕ
-storeQuadOf m a q = ifInside (reachOf (length m) a 16) (withQuad m a q) m
+storeQuadOf m a q = ifInside (reachOf (length m) a 16) (withQuad m a q) (λ first. m)

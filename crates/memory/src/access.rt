@@ -21,7 +21,8 @@ pub enum Width {
 
 pub enum Loaded {
     Value(u32),
-    Outside,
+    // The first address that is not inside.
+    Outside(u32),
 }
 
 fn bytes_of(width: Width) -> usize
@@ -61,7 +62,7 @@ pub fn load(window: &[u8], width: Width, address: u32) -> Loaded
 {
     match test(window.len(), address, bytes_of(width)) {
         Reach::Inside => Loaded::Value(value_at(window, width, address as usize)),
-        Reach::Outside => Loaded::Outside,
+        Reach::Outside(first) => Loaded::Outside(first),
     }
 }
 
@@ -73,6 +74,6 @@ pub fn store(window: &mut [u8], width: Width, address: u32, value: u32) -> Reach
             put_value(window, width, address as usize, value);
             Reach::Inside
         }
-        Reach::Outside => Reach::Outside,
+        Reach::Outside(first) => Reach::Outside(first),
     }
 }

@@ -1,10 +1,22 @@
 // The address test.
 ghost use mathlib.Core.Path.{_≡_};
-ghost use Rattle.memory.specs.Address.{reachOf};
+ghost use Rattle.memory.specs.Address.{firstOutside, reachOf};
 
 pub enum Reach {
     Inside,
-    Outside,
+    // The first address that is not inside.
+    Outside(u32),
+}
+
+// Of an access that is not wholly inside.
+fn first_outside(length: usize, address: u32) -> u32
+    ensures { λ r. ⌜ r ≡ firstOutside length address ⌝ }
+{
+    if (address as usize) < length {
+        (length % 0x1_0000_0000) as u32
+    } else {
+        address
+    }
 }
 
 // Whether `count` bytes from `address` on lie wholly in a window of `length` bytes.
@@ -16,5 +28,5 @@ pub fn test(length: usize, address: u32, count: usize) -> Reach
             return Reach::Inside;
         }
     }
-    Reach::Outside
+    Reach::Outside(first_outside(length, address))
 }

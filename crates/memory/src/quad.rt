@@ -18,7 +18,8 @@ pub struct Quad {
 
 pub enum LoadedQuad {
     Words(Quad),
-    Outside,
+    // The first address that is not inside.
+    Outside(u32),
 }
 
 fn quad_at(window: &[u8], at: usize) -> Quad
@@ -48,7 +49,7 @@ pub fn load_quad(window: &[u8], address: u32) -> LoadedQuad
 {
     match test(window.len(), address, 16) {
         Reach::Inside => LoadedQuad::Words(quad_at(window, address as usize)),
-        Reach::Outside => LoadedQuad::Outside,
+        Reach::Outside(first) => LoadedQuad::Outside(first),
     }
 }
 
@@ -60,6 +61,6 @@ pub fn store_quad(window: &mut [u8], address: u32, quad: Quad) -> Reach
             put_quad(window, address as usize, quad);
             Reach::Inside
         }
-        Reach::Outside => Reach::Outside,
+        Reach::Outside(first) => Reach::Outside(first),
     }
 }

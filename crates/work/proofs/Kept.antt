@@ -15,7 +15,7 @@ use Rattle.command.specs.Table.{rowOf}
 use Rattle.command.specs.Frame.{frameFault, heldFault}
 use Rattle.work.specs.Shape.{isRectangle}
 use Rattle.work.specs.Checks.{misaligned, unframed, outside, unfitFrame, unfitDispatch, checkOf}
-use Rattle.work.specs.Work.{Left, leaves, dispatchedBy, afterDispatch, heldBy}
+use Rattle.work.specs.Work.{Left, leaves, ranAs, dispatchedBy, afterDispatch, heldBy}
 use Rattle.work.specs.Perform.{performedOf}
 use Rattle.work.proofs.Faultless.{check-done}
 use Rattle.work.proofs.Works.{work-has}
@@ -56,7 +56,7 @@ module _ (c : Command) (full : Bool) (ring window : List ℕ) (frame : Frame) (p
       (λ faulty. (refl, refl))
 
   pub performed-frame : isDone (heldFault frame (length window)) ≡ true → Held left
-  unfolding leaves afterDispatch heldBy heldFault
+  unfolding leaves afterDispatch ranAs heldBy heldFault
   performed-frame held =
       performed-has c full ring window frame pack pipe limit Held
       (λ fine.

@@ -6,4 +6,5 @@ pub mod Performs
 pub mod OutcomeRanges
 pub mod Kept
 pub mod Reports
+pub mod Sites
 pub mod OwnBytes

@@ -18,7 +18,7 @@ use Rattle.work.specs.Checks.{slotFault, checkOf}
 use Rattle.command.specs.Report.{doneOrFrom, emits, interrupts}
 use Rattle.work.specs.Work.{Left, leaves, workOf}
 use Rattle.work.specs.Perform.{orElse, faultOf, performedOf}
-use Rattle.work.proofs.OutcomeRanges.{DoneOr, header-range, slot-range, check-range, work-range}
+use Rattle.work.proofs.OutcomeRanges.{DoneOr, widen, header-range, slot-range, check-range, work-range}
 use Rattle.work.proofs.Performs.{performed-fault, performed-has}
 
 -- a fault hides the next; none lets it through
@@ -34,10 +34,6 @@ or-else-next fault next e = rw e
 fault-range : (low high : ℕ) (o : Outcome) → DoneOr low high o → isDone o ≡ false → (low ≤ outcomeNumber o) × (outcomeNumber o ≤ high)
 fault-range low high o (inl e) faulty = absurd (eqb-false (outcomeNumber o) 0 faulty e)
 fault-range low high o (inr h) faulty = h
-
-widen : (least most : ℕ) (o : Outcome) {low high : ℕ} → low ≤ least → most ≤ high → DoneOr least most o → DoneOr low high o
-widen least most o l h (inl e) = inl e
-widen least most o l h (inr r) = inr (omega arith)
 
 -- outcomes 0 and from `low` on, and those below it
 from-holds : (low least most : ℕ) (o : Outcome) → low ≤ least → DoneOr least most o → doneOrFrom low o ≡ true

@@ -7,10 +7,12 @@ use lib.Dec.{eqb}
 use Rattle.memory.specs.Rectangle.{filled}
 use Rattle.memory.specs.Copy.{copied, blitted}
 use Rattle.memory.specs.Transfer.{transferred}
+use Rattle.kernel.specs.declared.step.Stop.{Stop}
 use Rattle.kernel.specs.declared.step.Stop.the-variants.{NotListed as Unlisted, OffTheKernel as OffIt, OutsideTheWindow as OffTheWindow, OutOfSteps as NoStepsLeft}
 use Rattle.kernel.specs.declared.dispatch.Ran.{Ran}
 use Rattle.kernel.specs.declared.dispatch.Ran.the-variants.{Done as RanToItsEnd, Stopped}
 use Rattle.kernel.specs.Dispatch.{Dispatched, dispatchOf}
+use Rattle.kernel.specs.Site.{noSite, siteOf}
 use Rattle.command.specs.declared.outcome.Outcome.{Outcome}
 use Rattle.command.specs.declared.outcome.Outcome.the-variants.{Done, NotListed, OffTheKernel, AccessOutside, OutOfSteps}
 use Rattle.command.specs.declared.header.Command.{Command}
@@ -21,7 +23,7 @@ use Rattle.command.specs.Opcode.{writeMem, readMem, fillRect, blit, dispatch1D,
 use Rattle.command.specs.Frame.{strideOf}
 use Rattle.work.specs.Shape.{widthOf, heightOf}
 
--- a command's outcome, and the frame, window and pipe it leaves
+-- what a command answers, and the window and pipe it leaves
 pub record Left : Type 0 where
   pub performed : Performed
   pub window : List ℕ
@@ -33,25 +35,37 @@ pub record Shows (r : Performed) (w p : List ℕ) (l : Left) : Type 0 where
   pub window : w ≡ l .window
   pub pipe : p ≡ l .pipe
 
--- this outcome, with this frame, window and pipe after it
+-- this outcome, with this frame after it, where no thread stopped
+abbrev pub withoutStop : Outcome → Frame → Performed
+withoutStop o frame = record { outcome = o; frame = frame; site = noSite }
+
+-- the same, with this window and pipe after it
 unfoldable pub leaves : Outcome → Frame → List ℕ → List ℕ → Left
-leaves o frame window pipe = record { performed = record { outcome = o; frame = frame }; window = window; pipe = pipe }
+leaves o frame window pipe = record { performed = withoutStop o frame; window = window; pipe = pipe }
 
 -- 11 to 14: why a thread stopped
+unfoldable pub stopOutcome : Stop → Outcome
+stopOutcome Unlisted = NotListed
+stopOutcome OffIt = OffTheKernel
+stopOutcome (OffTheWindow first) = AccessOutside
+stopOutcome NoStepsLeft = OutOfSteps
+
+-- a dispatch is done, or has its stop's outcome
 unfoldable pub ranOutcome : Ran → Outcome
 ranOutcome RanToItsEnd = Done
-ranOutcome (Stopped Unlisted) = NotListed
-ranOutcome (Stopped OffIt) = OffTheKernel
-ranOutcome (Stopped OffTheWindow) = AccessOutside
-ranOutcome (Stopped NoStepsLeft) = OutOfSteps
+ranOutcome (Stopped stop) = stopOutcome (stop .why)
+
+-- what a dispatch answers: its outcome, the frame as it was, and where a thread stopped, if one did
+unfoldable pub ranAs : Frame → Ran → Performed
+ranAs frame ran = record { outcome = ranOutcome ran; frame = frame; site = siteOf ran }
 
 -- DISPATCH_1D: arg0 groups, arg1 threads in a group, arg2 kernel
 unfoldable pub dispatchedBy : Command → ℕ → List ℕ → List ℕ → Dispatched
 dispatchedBy c limit pack window = dispatchOf limit pack (c .arg2) (c .arg0) (c .arg1) window
 
--- after a dispatch: its outcome, and the window with the stores made before a stop; it changes no frame or pipe
+-- after a dispatch: what it answers, and the window with the stores made before a stop; it changes no frame or pipe
 unfoldable pub afterDispatch : Frame → List ℕ → Dispatched → Left
-afterDispatch frame pipe d = leaves (ranOutcome (d .ran)) frame (d .window) pipe
+afterDispatch frame pipe d = record { performed = ranAs frame (d .ran); window = d .window; pipe = pipe }
 
 -- SET_FB: arg0 base, arg1 stride, arg2 format
 unfoldable pub heldBy : Command → Frame

@@ -46,9 +46,6 @@ pub fn perform(
     if is_done(fault) {
         work(command, ring, window, frame, pack, pipe, limit)
     } else {
-        Performed {
-            outcome: fault,
-            frame,
-        }
+        Performed::without_stop(fault, frame)
     }
 }

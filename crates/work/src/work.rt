@@ -9,7 +9,7 @@ ghost use Rattle.command.specs.Frame.{strideOf};
 ghost use Rattle.work.specs.Shape.{widthOf, heightOf};
 ghost use Rattle.work.specs.Checks.{outside};
 ghost use Rattle.command.specs.Table.{rowOf};
-ghost use Rattle.work.specs.Work.{Shows, heldBy, ranOutcome, dispatchedBy, workOf};
+ghost use Rattle.work.specs.Work.{Shows, withoutStop, heldBy, stopOutcome, ranOutcome, ranAs, dispatchedBy, workOf};
 use crate::shape::height;
 use crate::shape::width;
 use command::frame::Frame;
@@ -19,6 +19,8 @@ use command::opcode;
 use command::outcome::Outcome;
 use kernel::dispatch::Ran;
 use kernel::dispatch::dispatch;
+use kernel::site::Site;
+use kernel::site::site_of;
 use kernel::step::Stop;
 use memory::copy;
 use memory::rectangle::fill;
@@ -28,6 +30,31 @@ use memory::transfer::write_words;
 pub struct Performed {
     pub outcome: Outcome,
     pub frame: Frame,
+    // Where a thread stopped, if one did.
+    pub site: Site,
+}
+
+impl Performed {
+    pub fn without_stop(outcome: Outcome, frame: Frame) -> Self
+        ensures { λ r. ⌜ r ≡ withoutStop outcome frame ⌝ }
+    {
+        Performed {
+            outcome,
+            frame,
+            site: Site::none(),
+        }
+    }
+}
+
+fn stop_outcome(why: Stop) -> Outcome
+    ensures { λ r. ⌜ r ≡ stopOutcome why ⌝ }
+{
+    match why {
+        Stop::NotListed => Outcome::NotListed,
+        Stop::OffTheKernel => Outcome::OffTheKernel,
+        Stop::OutsideTheWindow(_) => Outcome::AccessOutside,
+        Stop::OutOfSteps => Outcome::OutOfSteps,
+    }
 }
 
 fn ran_outcome(ran: Ran) -> Outcome
@@ -35,12 +62,10 @@ fn ran_outcome(ran: Ran) -> Outcome
 {
     match ran {
         Ran::Done => Outcome::Done,
-        Ran::Stopped(why) => match why {
-            Stop::NotListed => Outcome::NotListed,
-            Stop::OffTheKernel => Outcome::OffTheKernel,
-            Stop::OutsideTheWindow => Outcome::AccessOutside,
-            Stop::OutOfSteps => Outcome::OutOfSteps,
-        },
+        Ran::Stopped(stop) => {
+            let why = stop.why;
+            stop_outcome(why)
+        }
     }
 }
 
@@ -75,8 +100,8 @@ fn blit_rect(command: Command, window: &mut [u8], frame: Frame)
     );
 }
 
-fn run(command: Command, window: &mut [u8], pack: &[u8], limit: u32) -> Outcome
-    ensures { λ r. ⌜ (r ≡ ranOutcome (dispatchedBy command limit (now (pack .entry)) (now (window .entry)) .ran)) × (now (window .exit) ≡ dispatchedBy command limit (now (pack .entry)) (now (window .entry)) .window) ⌝ }
+fn run(command: Command, window: &mut [u8], frame: Frame, pack: &[u8], limit: u32) -> Performed
+    ensures { λ r. ⌜ (r ≡ ranAs frame (dispatchedBy command limit (now (pack .entry)) (now (window .entry)) .ran)) × (now (window .exit) ≡ dispatchedBy command limit (now (pack .entry)) (now (window .entry)) .window) ⌝ }
 {
     let ran = dispatch(
         pack,
@@ -86,7 +111,11 @@ fn run(command: Command, window: &mut [u8], pack: &[u8], limit: u32) -> Outcome
         limit,
         window,
     );
-    ran_outcome(ran)
+    Performed {
+        outcome: ran_outcome(ran),
+        frame,
+        site: site_of(ran),
+    }
 }
 
 fn held(command: Command) -> Frame
@@ -111,6 +140,7 @@ pub fn work(
     requires { ⌜ (outside command (length (now window)) frame ≡ false) × (rowOf (command .opcode) .payload ≡ true → command .payload + 4 * command .len ≤ length (now ring)) × (1020 ≤ length (now pipe)) ⌝ }
     ensures { λ r. ⌜ Shows r (now (window .exit)) (now (pipe .exit)) (workOf command (now (ring .entry)) (now (window .entry)) frame (now (pack .entry)) (now (pipe .entry)) limit) ⌝ }
 {
+    let done = Performed::without_stop(Outcome::Done, frame);
     let to = command.arg0 as usize;
     let words = command.len as usize;
     let opcode = command.opcode;
@@ -120,21 +150,9 @@ pub fn work(
         opcode::FILL_RECT => fill_rect(command, window, frame),
         opcode::BLIT => blit_rect(command, window, frame),
         opcode::COPY_BUFFER => copy::copy(window, to, command.arg1 as usize, words),
-        opcode::DISPATCH_1D => {
-            let outcome = run(command, window, pack, limit);
-            return Performed { outcome, frame };
-        }
-        opcode::SET_FB => {
-            let frame = held(command);
-            return Performed {
-                outcome: Outcome::Done,
-                frame,
-            };
-        }
+        opcode::DISPATCH_1D => return run(command, window, frame, pack, limit),
+        opcode::SET_FB => return Performed::without_stop(Outcome::Done, held(command)),
         _ => {}
     }
-    Performed {
-        outcome: Outcome::Done,
-        frame,
-    }
+    done
 }

@@ -36,7 +36,7 @@ returns-2 c = rw (c .enum-told .given .1)
 
 returns-3 : tie.Need-returns-3
 unfolding reportWords valuesOf
-returns-3 c = rw (c .before .before .before .before .answer2 .given .1, c .bit2 .ensures, c .before .bit .ensures, c .before .before .number .ensures)
+returns-3 c = rw (c .before .before .before .before .before .answer2 .given .1, c .bit2 .ensures, c .before .bit .ensures, c .before .before .number .ensures)
 
 pub report-words-spec : {M : Type 1} → statement M
 report-words-spec =

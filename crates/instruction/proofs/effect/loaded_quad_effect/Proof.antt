@@ -7,8 +7,8 @@ use Rattle.instruction.proofs.effect.loaded_quad_effect.Tie as tie
 enum-known-loaded : tie.Need-enum-known-loaded
 enum-known-loaded c = search needs
 
-enum-told : tie.Need-enum-told
-enum-told c = search needs
+enum-known-loaded-2 : tie.Need-enum-known-loaded-2
+enum-known-loaded-2 c = search needs
 
 returns : tie.Need-returns
 unfolding loadedQuadEffect
@@ -16,7 +16,7 @@ returns c = rw (c .before .loaded .given .1)
 
 returns-2 : tie.Need-returns-2
 unfolding loadedQuadEffect
-returns-2 c = rw (c .enum-told .given .1)
+returns-2 c = rw (c .before .loaded2 .given .1)
 
 pub loaded-quad-effect-spec : {M : Type 1} → statement M
-loaded-quad-effect-spec = tie.close (tie.spec enum-known-loaded enum-told returns returns-2)
+loaded-quad-effect-spec = tie.close (tie.spec enum-known-loaded enum-known-loaded-2 returns returns-2)

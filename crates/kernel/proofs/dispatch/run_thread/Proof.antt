@@ -13,11 +13,11 @@ div-group c = threads-positive _ _ _ (c .before .before .pre .1)
 cast-group : tie.Need-cast-group
 cast-group c = omega (arith, div-lt-iff-lt-mul (threads-positive _ _ _ (c .before .before .pre .1)) .1 (c .before .before .pre .1))
 
-rem-place : tie.Need-rem-place
-rem-place c = threads-positive _ _ _ (c .before .before .pre .1)
+rem-thread : tie.Need-rem-thread
+rem-thread c = threads-positive _ _ _ (c .before .before .pre .1)
 
-cast-place : tie.Need-cast-place
-cast-place c = omega (arith, mod-lt (c .before .before .args .i) (threads-positive _ _ _ (c .before .before .pre .1)))
+cast-thread : tie.Need-cast-thread
+cast-thread c = omega (arith, mod-lt (c .before .before .args .i) (threads-positive _ _ _ (c .before .before .pre .1)))
 
 start-requires : tie.Need-start-requires
 start-requires c κs = search needs
@@ -41,8 +41,8 @@ run-thread-spec =
     (tie.spec
     div-group
     cast-group
-    rem-place
-    cast-place
+    rem-thread
+    cast-thread
     start-requires
     run-requires
     ran-of-requires

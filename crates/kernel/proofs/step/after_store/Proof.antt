@@ -11,8 +11,8 @@ enum-told c = search needs
 go-on-requires : tie.Need-go-on-requires
 go-on-requires c κs = search needs
 
-enum-told-2 : tie.Need-enum-told-2
-enum-told-2 c = search needs
+enum-known-reach : tie.Need-enum-known-reach
+enum-known-reach c = search needs
 
 stopped-requires : tie.Need-stopped-requires
 stopped-requires c κs = search needs
@@ -23,8 +23,8 @@ returns c = rw (c .before .enum-told .given .1) (c .go-on .ensures)
 
 returns-2 : tie.Need-returns-2
 unfolding afterStore ifInside
-returns-2 c = rw (c .before .enum-told2 .given .1) (c .stopped .ensures)
+returns-2 c = rw (c .before .before .reach .given .1) (c .stopped .ensures)
 
 pub after-store-spec : {M : Type 1} → statement M
 after-store-spec =
-    tie.close (tie.spec enum-told go-on-requires enum-told-2 stopped-requires returns returns-2)
+    tie.close (tie.spec enum-told go-on-requires enum-known-reach stopped-requires returns returns-2)

@@ -69,8 +69,8 @@ enum-told-3 c = search needs
 stopped-requires : tie.Need-stopped-requires
 stopped-requires c κs = search needs
 
-enum-told-4 : tie.Need-enum-told-4
-enum-told-4 c = search needs
+enum-known-effect-6 : tie.Need-enum-known-effect-6
+enum-known-effect-6 c = search needs
 
 stopped-requires-2 : tie.Need-stopped-requires-2
 stopped-requires-2 c κs = search needs
@@ -115,7 +115,7 @@ returns-8 c = rw (c .before .enum-told3 .given .1) (record { answer = c .stopped
 
 returns-9 : tie.Need-returns-9
 unfolding applied
-returns-9 c = rw (c .before .enum-told4 .given .1) (record { answer = c .stopped2 .ensures; window = refl })
+returns-9 c = rw (c .before .before .effect6 .given .1) (record { answer = c .stopped2 .ensures; window = refl })
 
 pub apply-spec : {M : Type 1} → statement M
 apply-spec =
@@ -141,7 +141,7 @@ apply-spec =
     end-requires
     enum-told-3
     stopped-requires
-    enum-told-4
+    enum-known-effect-6
     stopped-requires-2
     returns
     returns-2

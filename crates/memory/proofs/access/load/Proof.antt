@@ -27,8 +27,8 @@ enum-told c = search needs
 value-at-requires : tie.Need-value-at-requires
 value-at-requires c κs = inside-reach _ _ _ (inside c)
 
-enum-told-2 : tie.Need-enum-told-2
-enum-told-2 c = search needs
+enum-known-first : tie.Need-enum-known-first
+enum-known-first c = search needs
 
 returns : tie.Need-returns
 unfolding loadOf ifInside
@@ -37,8 +37,9 @@ returns c = rw (inside (c .before)) (ap Value (c .value-at .ensures))
 returns-2 : tie.Need-returns-2
 unfolding loadOf ifInside
 returns-2 c =
-    let a = c .before .before .before .before .before .args in
-    let out : reachOf (length (now (a .window))) (a .address) (bytesOf (a .width)) ≡ Outside = rw (← c .before .before .before .bytes-of .ensures, ← c .before .before .test .ensures) (c .enum-told2 .given .1) in
+    let a = c .before .before .before .before .before .before .args in
+    let out : reachOf (length (now (a .window))) (a .address) (bytesOf (a .width)) ≡ Outside (c .before .first .given .0 .0) =
+    rw (← c .before .before .before .before .bytes-of .ensures, ← c .before .before .before .test .ensures) (c .before .first .given .1) in
     rw out
 
 pub load-spec : {M : Type 1} → statement M
@@ -49,6 +50,6 @@ load-spec =
     test-requires
     enum-told
     value-at-requires
-    enum-told-2
+    enum-known-first
     returns
     returns-2)

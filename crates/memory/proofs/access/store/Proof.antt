@@ -26,8 +26,8 @@ enum-told c = search needs
 put-value-requires : tie.Need-put-value-requires
 put-value-requires c κs = inside-reach _ _ _ (inside (c .before))
 
-enum-told-2 : tie.Need-enum-told-2
-enum-told-2 c = search needs
+enum-known-first : tie.Need-enum-known-first
+enum-known-first c = search needs
 
 same-length : tie.Need-same-length
 same-length c = search needs
@@ -41,8 +41,9 @@ returns c =
 returns-2 : tie.Need-returns-2
 unfolding storeOf ifInside
 returns-2 c =
-    let a = c .before .before .before .before .before .args in
-    let out : reachOf (length (now (a .window))) (a .address) (bytesOf (a .width)) ≡ Outside = rw (← c .before .before .before .bytes-of .ensures, ← c .before .before .test .ensures) (c .enum-told2 .given .1) in
+    let a = c .before .before .before .before .before .before .args in
+    let out : reachOf (length (now (a .window))) (a .address) (bytesOf (a .width)) ≡ Outside (c .before .first .given .0 .0) =
+    rw (← c .before .before .before .before .bytes-of .ensures, ← c .before .before .before .test .ensures) (c .before .first .given .1) in
     (sym out, rw out)
 
 pub store-spec : {M : Type 1} → statement M
@@ -53,7 +54,7 @@ store-spec =
     test-requires
     enum-told
     put-value-requires
-    enum-told-2
+    enum-known-first
     same-length
     returns
     returns-2)

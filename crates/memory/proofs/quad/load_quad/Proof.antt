@@ -24,8 +24,8 @@ enum-told c = search needs
 quad-at-requires : tie.Need-quad-at-requires
 quad-at-requires c κs = inside-reach _ _ _ (inside c)
 
-enum-told-2 : tie.Need-enum-told-2
-enum-told-2 c = search needs
+enum-known-first : tie.Need-enum-known-first
+enum-known-first c = search needs
 
 returns : tie.Need-returns
 unfolding loadQuadOf ifInside
@@ -34,10 +34,10 @@ returns c = rw (inside (c .before)) (ap Words (c .quad-at .ensures))
 returns-2 : tie.Need-returns-2
 unfolding loadQuadOf ifInside
 returns-2 c =
-    let a = c .before .before .before .before .args in
-    let out : reachOf (length (now (a .window))) (a .address) 16 ≡ Outside = rw (← c .before .before .test .ensures) (c .enum-told2 .given .1) in
+    let a = c .before .before .before .before .before .args in
+    let out : reachOf (length (now (a .window))) (a .address) 16 ≡ Outside (c .before .first .given .0 .0) = rw (← c .before .before .before .test .ensures) (c .before .first .given .1) in
     rw out
 
 pub load-quad-spec : {M : Type 1} → statement M
 load-quad-spec =
-    tie.close (tie.spec test-requires enum-told quad-at-requires enum-told-2 returns returns-2)
+    tie.close (tie.spec test-requires enum-told quad-at-requires enum-known-first returns returns-2)

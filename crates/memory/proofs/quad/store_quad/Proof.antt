@@ -23,8 +23,8 @@ enum-told c = search needs
 put-quad-requires : tie.Need-put-quad-requires
 put-quad-requires c κs = inside-reach _ _ _ (inside (c .before))
 
-enum-told-2 : tie.Need-enum-told-2
-enum-told-2 c = search needs
+enum-known-first : tie.Need-enum-known-first
+enum-known-first c = search needs
 
 same-length : tie.Need-same-length
 same-length c = search needs
@@ -38,11 +38,11 @@ returns c =
 returns-2 : tie.Need-returns-2
 unfolding storeQuadOf ifInside
 returns-2 c =
-    let a = c .before .before .before .before .args in
-    let out : reachOf (length (now (a .window))) (a .address) 16 ≡ Outside = rw (← c .before .before .test .ensures) (c .enum-told2 .given .1) in
+    let a = c .before .before .before .before .before .args in
+    let out : reachOf (length (now (a .window))) (a .address) 16 ≡ Outside (c .before .first .given .0 .0) = rw (← c .before .before .before .test .ensures) (c .before .first .given .1) in
     (sym out, rw out)
 
 pub store-quad-spec : {M : Type 1} → statement M
 store-quad-spec =
     tie.close
-    (tie.spec test-requires enum-told put-quad-requires enum-told-2 same-length returns returns-2)
+    (tie.spec test-requires enum-told put-quad-requires enum-known-first same-length returns returns-2)

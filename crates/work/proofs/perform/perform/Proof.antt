@@ -26,6 +26,9 @@ work-requires c κs =
       lent .room,
     )
 
+without-stop-requires : tie.Need-without-stop-requires
+without-stop-requires c κs = search needs
+
 same-length : tie.Need-same-length
 same-length c = search needs
 
@@ -41,9 +44,9 @@ returns c =
 returns-2 : tie.Need-returns-2
 unfolding leaves
 returns-2 c =
-    let a = c .before .before .before .before .before .before .before .args in
-    let faulty = rw (c .before .is-done .ensures, c .before .before .fault .ensures) at (c .if1 .left) in
-    rw (performed-fault (a .command) (a .full) (now (a .ring)) (now (a .window)) (a .frame) (now (a .pack)) (now (a .pipe)) (a .limit) faulty) (record { answer = rw (c .before .before .fault .ensures); window = refl; pipe = refl })
+    let a = c .before .before .before .before .before .before .before .before .args in
+    let faulty = rw (c .before .before .is-done .ensures, c .before .before .before .fault .ensures) at (c .before .if1 .left) in
+    rw (performed-fault (a .command) (a .full) (now (a .ring)) (now (a .window)) (a .frame) (now (a .pack)) (now (a .pipe)) (a .limit) faulty) (record { answer = rw (c .without-stop .ensures, c .before .before .before .fault .ensures); window = refl; pipe = refl })
 
 pub perform-spec : {M : Type 1} → statement M
 perform-spec =
@@ -52,6 +55,7 @@ perform-spec =
     fault-requires
     is-done-requires
     work-requires
+    without-stop-requires
     same-length
     same-length-2
     returns
