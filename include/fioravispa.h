@@ -30,7 +30,7 @@ enum {
     FV_IMAGE_COMMANDS_WORD = 94,  /* commands taken, a word for each ring */
     FV_IMAGE_OUTCOMES_WORD = 98,  /* commands by outcome, a word for each */
     FV_IMAGE_EDITION_WORD = 113,
-    FV_REPORT_BYTES = 28,         /* 7 words */
+    FV_REPORT_BYTES = 44,         /* 11 words */
     FV_WINDOWS_BYTES = 32,        /* four pairs: start, length */
     FV_MEMORY_MOST = 1048576,
     FV_RING_MOST = 65536,
@@ -92,7 +92,8 @@ enum {
 /* ---- what became of a served command ----
  * The cursor moves past it in any case. Of 1 to 10 the smallest that applies is
  * given; they change no memory, pipe or frame. 11 to 14 keep the stores made before
- * the stop and end the whole dispatch. */
+ * the stop and end the whole dispatch; the report tells which thread stopped, at which
+ * place, and of 13 the address. */
 
 enum {
     FV_OUTCOME_DONE = 0,
@@ -311,12 +312,22 @@ struct fv_report {
     uint32_t words_read;          /* len of a READ_MEM with outcome 0, else 0 */
     uint32_t irq;                 /* 1 or 0 */
     uint32_t emitted;             /* 1 if the command emitted a fence, else 0, in both editions */
+
+    /* Which thread stopped a dispatch, with outcome 11 to 14; else all four are 0. */
+    uint32_t address;             /* 13: the first address that is not inside the window: the access's own, or the
+                                   * window's length if it begins inside; 11, 12, 14: 0 */
+    uint32_t place;               /* where the thread stood: bytes from its kernel's start. Of a branch to no place
+                                   * its own, past the last word the kernel's length */
+    uint32_t group;               /* the thread's group, */
+    uint32_t thread;              /* and its number in it, from 0 */
 };
 
 static inline struct fv_report fv_read_report(const uint8_t *bytes)
 {
     struct fv_report report = {fv_word(bytes, 0), fv_word(bytes, 1), fv_word(bytes, 2),
-                               fv_word(bytes, 3), fv_word(bytes, 4), fv_word(bytes, 5), fv_word(bytes, 6)};
+                               fv_word(bytes, 3), fv_word(bytes, 4), fv_word(bytes, 5),
+                               fv_word(bytes, 6), fv_word(bytes, 7), fv_word(bytes, 8),
+                               fv_word(bytes, 9), fv_word(bytes, 10)};
     return report;
 }
 

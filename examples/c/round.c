@@ -2,6 +2,7 @@
  * 4,294,967,295 and 0 to 1. Ring 1 waits for 1, and is served after the third emit and not before. By edition 1's rule its wait
  * would be met at once: 4,294,967,294 is at least 1. */
 #include <stdio.h>
+#include <string.h>
 #include "fioravispa.h"
 
 enum { SLOT = 5, TARGET = 1, EMITS = 3 };
@@ -18,12 +19,6 @@ static const struct fv_report expected[] = {
     {.status = FV_IDLE},
 };
 
-static int same(const struct fv_report *a, const struct fv_report *b)
-{
-    return a->status == b->status && a->ring == b->ring && a->outcome == b->outcome && a->fence == b->fence
-           && a->words_read == b->words_read && a->irq == b->irq && a->emitted == b->emitted;
-}
-
 /* A turn for each report that is expected, up to the first that differs; gives how many were right. */
 static size_t play(const struct fv_lent *lent)
 {
@@ -39,7 +34,7 @@ static size_t play(const struct fv_lent *lent)
         report = fv_turn_by(fv_turn, image, lent);
         if (report.status == FV_SERVED)
             printf("ring %u outcome %u fence %u emitted %u\n", report.ring, report.outcome, report.fence, report.emitted);
-        if (!same(&report, &expected[right]))
+        if (memcmp(&report, &expected[right], sizeof report) != 0)
             break;
         right++;
     }
