@@ -9,7 +9,6 @@ use native.Mathlib.Omega.{arith}
 use Rattle.pack.specs.declared.kernels.Kernel.{Kernel}
 use Rattle.kernel.specs.declared.step.Stop.{Stop}
 use Rattle.kernel.specs.declared.step.Stop.the-variants.{NotListed, OffTheKernel, OutsideTheWindow, OutOfSteps}
-use Rattle.kernel.specs.declared.step.Progress.the-variants.{Stopped}
 use Rattle.kernel.specs.declared.dispatch.ThreadStop.{ThreadStop}
 use Rattle.kernel.specs.declared.dispatch.Ran.{Ran}
 use Rattle.kernel.specs.declared.dispatch.Ran.the-variants.{Done, Stopped as StoppedFor}
@@ -17,8 +16,7 @@ use Rattle.kernel.specs.Thread.{started}
 use Rattle.kernel.specs.Run.{runOf}
 use Rattle.kernel.specs.Dispatch.{Dispatched, threadOf, threadsOf}
 use Rattle.kernel.proofs.Dispatches.{threads-positive}
-use Rattle.kernel.proofs.StepLimit.{out-of-steps}
-use Rattle.kernel.proofs.Threads.{starts-fresh, stopped-shown, shown-stopped, thread-number, stopped-by}
+use Rattle.kernel.proofs.Threads.{shown-stopped, thread-number, thread-out-of-steps, stopped-by}
 use Rattle.command.specs.Outcome.{outcomeNumber}
 use Rattle.work.specs.Work.{stopOutcome, ranOutcome}
 use Rattle.demands.specs.Stops.{stopNumber}
@@ -33,6 +31,10 @@ fourteen OffTheKernel e = absurd (omega (arith, e))
 fourteen (OutsideTheWindow first) e = absurd (omega (arith, e))
 fourteen OutOfSteps e = refl
 
+-- a stop of this thread of this group, at this place
+abbrev stopAt : ℕ → ℕ → ℕ → Stop → ThreadStop
+stopAt place group thread why = record { why = why; place = place; group = group; thread = thread }
+
 module _ (limit : ℕ) (pack : List ℕ) (kernel : Kernel) (groups threads : ℕ) (window : List ℕ) where
   -- all threads
   abbrev all : Dispatched
@@ -46,7 +48,8 @@ module _ (limit : ℕ) (pack : List ℕ) (kernel : Kernel) (groups threads : ℕ
       let g = s .number / threads in
       let j = s .number % threads in
       let t = started g j threads groups in
-      let told = shown-stopped g j (runOf limit pack kernel t (s .left)) stop (s .stopped) in
+      let run = runOf limit pack kernel t (s .left) in
+      let told = shown-stopped g j run stop (s .stopped) .told ∙ ap (stopAt (run .stepped .thread .place) g j) out in
       record {
         group = g;
         thread = j;
@@ -54,17 +57,15 @@ module _ (limit : ℕ) (pack : List ℕ) (kernel : Kernel) (groups threads : ℕ
         thread-below = mod-lt (s .number) some;
         window-before = s .left;
         before = rw (div-add-mod' (s .number) threads) (s .before);
-        still = out-of-steps limit pack kernel t (s .left) (starts-fresh g j threads groups) .0 (told .why ∙ ap Stopped out);
+        still = thread-out-of-steps limit pack kernel groups threads g j (s .left) .0 (s .stopped ∙ ap StoppedFor told);
       }
 
   first-then-out : FirstOutOfSteps limit pack kernel groups threads window → outcomeNumber (ranOutcome (all .ran)) ≡ 14
   unfolding ranOutcome stopOutcome
   first-then-out f =
-      let t = started (f .group) (f .thread) threads groups in
-      let out = out-of-steps limit pack kernel t (f .window-before) (starts-fresh (f .group) (f .thread) threads groups) .1 (f .still) in
-      let run = runOf limit pack kernel t (f .window-before) in
-      let stop : ThreadStop = record { why = OutOfSteps; place = run .stepped .thread .place; group = f .group; thread = f .thread } in
-      let shows = stopped-shown (f .group) (f .thread) run OutOfSteps out in
+      let run = runOf limit pack kernel (started (f .group) (f .thread) threads groups) (f .window-before) in
+      let stop = stopAt (run .stepped .thread .place) (f .group) (f .thread) OutOfSteps in
+      let shows = thread-out-of-steps limit pack kernel groups threads (f .group) (f .thread) (f .window-before) .1 (f .still) in
       let number = thread-number limit pack kernel groups threads (f .group) (f .thread) (f .window-before) (f .thread-below) in
       let below = number-below (f .group) (f .thread) groups threads (f .group-below) (f .thread-below) in
       let here = stopped-by limit pack kernel groups threads window (groups * threads) _ (f .window-before) stop below (f .before) (rw number shows) in

@@ -1,6 +1,6 @@
 -- A step tells an address only of the load or store that reached outside the window, and it is the first that is not inside.
 -- Assumes nothing.
-use mathlib.Core.Path.{_≡_, refl, subst, sym, _∙_}
+use mathlib.Core.Path.{_≡_, refl, subst, _∙_}
 use mathlib.Core.List.{List}
 use mathlib.Core.Logic.{_⊎_, inl, inr, ⊎-elim}
 use Prim.Native.Nat.{ℕ, _+_, _^_, _≤_, _<_}
@@ -14,7 +14,7 @@ use Rattle.memory.specs.declared.address.Reach.the-variants.{Inside, Outside}
 use Rattle.memory.specs.declared.access.Loaded.the-variants.{Value, Outside as NoValue}
 use Rattle.memory.specs.declared.quad.LoadedQuad.the-variants.{Words, Outside as NoWords}
 use Rattle.memory.specs.Address.{firstOutside, reachOf, ifInside}
-use Rattle.memory.specs.Access.{bytesOf, valueAt, loadOf}
+use Rattle.memory.specs.Access.{loadOf}
 use Rattle.memory.specs.Quad.{quadAt, loadQuadOf}
 use Rattle.memory.proofs.Reach.{reach-cases, first-is-own, first-is-length}
 use Rattle.instruction.specs.declared.list.Op.{Op}

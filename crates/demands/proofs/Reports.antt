@@ -16,7 +16,7 @@ use Rattle.command.specs.Outcome.{outcomeNumber, isDone}
 use Rattle.command.specs.Report.{emits, interrupts, wordsRead}
 use Rattle.kernel.specs.Site.{noSite}
 use Rattle.work.specs.Work.{heldBy}
-use Rattle.work.proofs.Sites.{performed-no-stop, performed-no-address}
+use Rattle.work.proofs.Sites.{performed-no-stop}
 use Rattle.words.proofs.Choices.{both-left, both-right, not-held}
 use Rattle.state.specs.declared.device.Device.{Device}
 use Rattle.device.specs.declared.turn.Report.{Report}
@@ -76,7 +76,7 @@ module _ (c : Command) (o : Outcome) where
 module _ (d : Device) (q : ℕ) (c : Command) (p : Performed) (shaped : Shaped d) (four : q < 4)
     (range : emits c (p .outcome) ≡ true → c .rdst < 64)
     (sets : SetsFrame c (outcomeNumber (p .outcome)) → p .frame ≡ heldBy c) (kept : (SetsFrame c (outcomeNumber (p .outcome)) → ⊥) → p .frame ≡ ringOf d q .frame)
-    (no-stop : outcomeNumber (p .outcome) ≤ 10 → p .site ≡ noSite) (no-address : (outcomeNumber (p .outcome) ≡ 13 → ⊥) → p .site .address ≡ 0) where
+    (no-stop : outcomeNumber (p .outcome) ≤ 10 → p .site ≡ noSite) where
   abbrev told : Values
   told = reportValues (reportOf d q c p)
 
@@ -115,7 +115,6 @@ module _ (d : Device) (q : ℕ) (c : Command) (p : Performed) (shaped : Shaped d
     no-words = reads-not c (p .outcome);
     irq = interrupts-when c (p .outcome);
     no-stop = no-stop;
-    no-address = no-address;
     cursor = ap (λ r. r .cursor) moved;
     window = ap (λ r. r .window) moved;
     frame-set = λ s. ap (λ r. r .frame) moved ∙ sets s;
@@ -143,7 +142,7 @@ reports d call report shaped fit was =
           rw (leftBy, was .after)
           (subst (λ (r : Report). Reported d q c (valuesOf (Served r)) (deviceAfter d q c p)) (was .told)
           (reported d q c p shaped (picked .0) (emits-in-range _ _ _ _ _ _ _ _)
-          (frame-set _ _ _ _ _ _ _ _) (frame-kept _ _ _ _ _ _ _ _) (performed-no-stop _ _ _ _ _ _ _ _) (performed-no-address _ _ _ _ _ _ _ _)));
+          (frame-set _ _ _ _ _ _ _ _) (frame-kept _ _ _ _ _ _ _ _) (performed-no-stop _ _ _ _ _ _ _ _)));
       shaped = rw (leftBy, was .after) (after-shaped d q c p shaped);
       slots = rw (leftBy, was .after) (after-fits d q c p fit);
     }

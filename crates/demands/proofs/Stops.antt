@@ -2,7 +2,7 @@
 -- Assumes nothing.
 use mathlib.Core.Path.{_≡_, refl, sym, ap, subst, _∙_}
 use mathlib.Core.List.{List}
-use mathlib.Core.Logic.{_⊎_, inl, inr, ⊎-elim}
+use mathlib.Core.Logic.{⊎-elim}
 use Prim.Native.Nat.{ℕ, zero, suc, _+_, _*_, _/_, _%_, _^_, _≤_, _<_}
 use native.Mathlib.Decide.{ℕ-discrete}
 use native.Mathlib.Nat.{mod-lt, div-lt-iff-lt-mul, div-add-mod', mul-le-mul, suc-mul}
@@ -18,7 +18,6 @@ use Rattle.pack.specs.Kernels.{codeWord}
 use Rattle.kernel.specs.declared.thread.Thread.{Thread}
 use Rattle.kernel.specs.declared.step.Stop.{Stop}
 use Rattle.kernel.specs.declared.step.Stop.the-variants.{NotListed, OffTheKernel, OutsideTheWindow, OutOfSteps}
-use Rattle.kernel.specs.declared.step.Progress.the-variants.{Running}
 use Rattle.kernel.specs.declared.dispatch.ThreadStop.{ThreadStop}
 use Rattle.kernel.specs.declared.dispatch.Ran.{Ran}
 use Rattle.kernel.specs.declared.dispatch.Ran.the-variants.{Done, Stopped}
@@ -26,7 +25,7 @@ use Rattle.kernel.specs.declared.site.Site.{Site}
 use Rattle.kernel.specs.Registers.{scalarOf}
 use Rattle.kernel.specs.Thread.{started}
 use Rattle.kernel.specs.Step.{stops, stoppedAs, stepOf}
-use Rattle.kernel.specs.Run.{running, stepsOf, runOf}
+use Rattle.kernel.specs.Run.{running, runOf}
 use Rattle.kernel.specs.Dispatch.{Dispatched, shown, going, threadOf, threadsOf}
 use Rattle.kernel.specs.Site.{siteAt, addressOf, siteOf}
 use Rattle.kernel.proofs.Dispatches.{threads-positive, no-thread, one-thread-more}

@@ -1,7 +1,7 @@
 -- The table of examples, by computation.
 -- Assumes nothing.
 use mathlib.Core.Path.{_≡_, refl}
-use mathlib.Core.List.{List}
+use mathlib.Core.List.{List, [], _∷_}
 use Prim.Native.Nat.{ℕ, _≤_}
 use native.Mathlib.Omega.{arith}
 use borrow.Author.Tests.{le-leb}
@@ -23,7 +23,7 @@ use Rattle.kernel.specs.Dispatch.{Dispatched, ranOf, shown, ifDone, threadOf, t
 use Rattle.kernel.specs.Site.{siteAt, siteOf}
 use Rattle.kernel.proofs.Examples as kernel
 use Rattle.kernel.specs.Examples.{afterWord, packOf}
-use Rattle.demands.specs.Table.{framedUnder, colored, StopOn0, oneThread, packOf2, packOf5, holding, vector, Table, LeastLimit, WhereStopped, RoundTheWrap, ReadyNoLonger}
+use Rattle.demands.specs.Table.{framedUnder, colored, StopOn0, oneThread, bytesOfWords, packOfWords, holding, vector, Table, LeastLimit, WhereStopped, RoundTheWrap, ReadyNoLonger}
 use Rattle.state.specs.Device.{defaultLimit, freshDevice, ringOf, slotOf, withRing, withSlots, withMarker, withCounts}
 use Rattle.state.specs.PlusOne.{plusOneAt}
 use Rattle.state.specs.Counts.{counted, total, balanced}
@@ -69,15 +69,15 @@ least = (refl, refl, refl)
 
 -- dispatches that stop elsewhere than at the first word, and a store across the window's end
 elsewhere : (dispatchOf 5 (packOf 0x02502F0D) 0 1 1 (replicate 64 0) ≡ stopped (OutsideTheWindow 64) 0 0 0)
-    × (dispatchOf 5 (packOf5 0x0010828B 0x0022828B 0x00229297 0x0202A50D 0x0000700F) 0 3 2 (replicate 64 0) ≡ stopped (OutsideTheWindow 64) 12 2 1)
-    × (dispatchOf 5 (packOf2 0xFFF00297 0x0000020E) 0 1 1 (replicate 64 0) ≡ stopped OffTheKernel 4 0 0)
-    × (dispatchOf 5 (packOf2 0xFFF00297 0xFFFFFFFF) 0 1 1 (replicate 64 0) ≡ stopped NotListed 4 0 0)
-unfolding dispatchOf threadsOf threadMore ifDone threadOf shown ranOf runOf stepsOf stepMore ifRunning running stepOf stops goesOn endsThread lands branched afterStore started startRegisters executed decoded opOf scalarRow plainRow immediateRow storeRow branchRow systemRow effectOf branchEffect holdsOf aluOf applied advanced movedTo written withScalar scalarOf kernelOf kernelCount firstWord kernelWords after halfAt wordAt reachOf firstOutside ifInside storeOf withValue withWord
+    × (dispatchOf 5 (packOfWords (0x0010828B ∷ 0x0022828B ∷ 0x00229297 ∷ 0x0202A50D ∷ 0x0000700F ∷ [])) 0 3 2 (replicate 64 0) ≡ stopped (OutsideTheWindow 64) 12 2 1)
+    × (dispatchOf 5 (packOfWords (0xFFF00297 ∷ 0x0000020E ∷ [])) 0 1 1 (replicate 64 0) ≡ stopped OffTheKernel 4 0 0)
+    × (dispatchOf 5 (packOfWords (0xFFF00297 ∷ 0xFFFFFFFF ∷ [])) 0 1 1 (replicate 64 0) ≡ stopped NotListed 4 0 0)
+unfolding dispatchOf threadsOf threadMore ifDone threadOf shown ranOf runOf stepsOf stepMore ifRunning running stepOf stops goesOn endsThread lands branched afterStore started startRegisters executed decoded opOf scalarRow plainRow immediateRow storeRow branchRow systemRow effectOf branchEffect holdsOf aluOf applied advanced movedTo written withScalar scalarOf kernelOf kernelCount firstWord kernelWords after halfAt wordAt reachOf firstOutside ifInside storeOf withValue withWord bytesOfWords
 elsewhere = (refl, refl, refl, refl)
 
 -- all at once, since they open the same definitions
 worked : Table × LeastLimit × WhereStopped × RoundTheWrap × ReadyNoLonger
-unfolding RoundTheWrap ReadyNoLonger firstOutside valuesOf colored freshDevice ringOf slotOf withRing withSlots plusOneAt withMarker withCounts counted total balanced windowFits memoryFits windowsFit ringSound limitFits stateSound ringFits ringsFit verdictOf readyWith readyWhere readyAt nextRing seek bytesOfRing pickOf unchanged fenceOf emitTo ringAfter deviceAfter reportOf finished servedOf pickedOf judgedOf verdictOn turnOf rowOf waitSize payloadSize targetAt commandAt isWhole unknownOpcode wrongPayloadBit noSuchSlot headerFault frameMisaligned frameUnfit frameFault heldFault isRectangle sizeOf widthOf heightOf tooNarrow endOf slotFault misaligned unframed outside unfitFrame outOfRange unfitDispatch checkOf emits interrupts wordsRead leaves stopOutcome ranOutcome ranAs siteOf dispatchedBy afterDispatch heldBy workOf orElse faultOf guarded performedOf after halfAt wordAt withByte withHalf withWord rectangleEnd filledRow filled windowOf putBack kernelCount firstWord kernelWords codeCount liesInCode allBelow soundPack kernelOf
+unfolding RoundTheWrap ReadyNoLonger firstOutside bytesOfWords valuesOf colored freshDevice ringOf slotOf withRing withSlots plusOneAt withMarker withCounts counted total balanced windowFits memoryFits windowsFit ringSound limitFits stateSound ringFits ringsFit verdictOf readyWith readyWhere readyAt nextRing seek bytesOfRing pickOf unchanged fenceOf emitTo ringAfter deviceAfter reportOf finished servedOf pickedOf judgedOf verdictOn turnOf rowOf waitSize payloadSize targetAt commandAt isWhole unknownOpcode wrongPayloadBit noSuchSlot headerFault frameMisaligned frameUnfit frameFault heldFault isRectangle sizeOf widthOf heightOf tooNarrow endOf slotFault misaligned unframed outside unfitFrame outOfRange unfitDispatch checkOf emits interrupts wordsRead leaves stopOutcome ranOutcome ranAs siteOf dispatchedBy afterDispatch heldBy workOf orElse faultOf guarded performedOf after halfAt wordAt withByte withHalf withWord rectangleEnd filledRow filled windowOf putBack kernelCount firstWord kernelWords codeCount liesInCode allBelow soundPack kernelOf
 worked = (
   record {
     p1 = ((refl, refl), refl);

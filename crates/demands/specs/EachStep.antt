@@ -200,7 +200,8 @@ pub record StepByStep (d : Device) (call : Call) : Type 0 where
   pub stopped : numberIn d call ≡ 0 → 11 ≤ valuesIn d call .outcome
       → Dispatches d call (ringServed d call) × StoppedIn d call (ringServed d call)
   -- the outcomes that the stops give
-  pub numbers : (stopNumber NotListed ≡ 11) × (stopNumber OffTheKernel ≡ 12) × ((first : ℕ) → stopNumber (OutsideTheWindow first) ≡ 13) × (stopNumber OutOfSteps ≡ 14)
+  pub numbers : (stopNumber NotListed ≡ 11) × (stopNumber OffTheKernel ≡ 12) × ((first : ℕ) → stopNumber (OutsideTheWindow first) ≡ 13)
+      × (stopNumber OutOfSteps ≡ 14)
 
 unfoldable pub EachStep : Type 0
 EachStep = (d : Device) (call : Call) → StepByStep d call

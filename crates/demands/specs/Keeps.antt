@@ -11,7 +11,7 @@ use Rattle.device.specs.Answer.{noValues, valuesOf}
 use Rattle.device.specs.Turn.{Call, TurnEnd, turnOf}
 use Rattle.demands.specs.Calls.{leftBy, numberIn, valuesIn, ringServed}
 
--- device, memory and pipe are as they were, and nothing is reported: zeros, no IRQ and no fence emitted
+-- device, memory and pipe are as they were, and nothing is reported: zeros, no IRQ, no fence emitted and no stop
 pub record Same (d : Device) (call : Call) (end : TurnEnd) : Type 0 where
   pub device : end .turned .device ≡ d
   pub memory : end .memory ≡ call .memory

@@ -50,9 +50,8 @@ pub record Reported (d : Device) (q : ℕ) (c : Command) (v : Values) (after : D
   pub no-words : (Reads c (v .outcome) → ⊥) → v .words ≡ 0
   -- IRQ is reported exactly if bit 0 is set and the outcome is not 1 to 4
   pub irq : (v .irq ≡ true) ↔ Interrupts c (v .outcome)
-  -- outcomes 0 to 10 tell of no stop, and of 11 to 14 only 13 tells an address; what they tell is `Stops.StoppedThread`
+  -- outcomes 0 to 10 tell of no stop; what 11 to 14 tell is `Stops.StoppedThread`
   pub no-stop : v .outcome ≤ 10 → v .site ≡ noSite
-  pub no-address : (v .outcome ≡ 13 → ⊥) → v .site .address ≡ 0
   -- the cursor moves past the command, and the window stays
   pub cursor : ringOf after q .cursor ≡ ringOf d q .cursor + c .size
   pub window : ringOf after q .window ≡ ringOf d q .window

@@ -64,7 +64,7 @@ pub record ReachesOut (pack : List ℕ) (kernel : Kernel) (t : Thread) (window :
 
 -- the thread that stopped a dispatch, told by an outcome, an address, a place, a group and a thread
 pub record StoppedThread (limit : ℕ) (pack : List ℕ) (kernel : Kernel) (groups threads : ℕ) (window : List ℕ) (outcome : ℕ) (site : Site) : Type 0 where
-  -- it is thread `thread` of group `group`
+  -- there is such a group, and such a thread in it
   pub group : site .group < groups
   pub thread : site .thread < threads
   -- no thread before it stopped

@@ -63,14 +63,14 @@ colored [] n = replicate n 0
 colored (a ∷ places) n = withWord (colored places n) a 0xAABBCCDD
 
 -- a turn that serves this ring: this outcome, this fence, emitted or not, this site, no words read and no IRQ
-abbrev pub ServedWith : ℕ → ℕ → ℕ → Bool → Site → TurnEnd → Type 0
-ServedWith ring outcome fence emitted site end =
+abbrev pub ServedAt : ℕ → ℕ → ℕ → Bool → Site → TurnEnd → Type 0
+ServedAt ring outcome fence emitted site end =
     (answerNumber (end .turned .answer) ≡ 0)
     × (valuesOf (end .turned .answer) ≡ record { ring = ring; outcome = outcome; fence = fence; words = 0; irq = false; emitted = emitted; site = site })
 
 -- where no thread stopped
 abbrev pub ServedAs : ℕ → ℕ → ℕ → Bool → TurnEnd → Type 0
-ServedAs ring outcome fence emitted end = ServedWith ring outcome fence emitted noSite end
+ServedAs ring outcome fence emitted end = ServedAt ring outcome fence emitted noSite end
 
 -- of ring 0, with no fence
 abbrev pub OutcomeOn0 : ℕ → TurnEnd → Type 0
@@ -78,7 +78,7 @@ OutcomeOn0 outcome end = ServedAs 0 outcome 0 false end
 
 -- of ring 0, with no fence, where a thread stopped
 abbrev pub StopOn0 : ℕ → Site → TurnEnd → Type 0
-StopOn0 outcome site end = ServedWith 0 outcome 0 false site end
+StopOn0 outcome site end = ServedAt 0 outcome 0 false site end
 
 -- a dispatch has this outcome, and leaves the window as it was
 pub record EndsWith (number : ℕ) (window : List ℕ) (d : Dispatched) : Type 0 where
@@ -93,13 +93,14 @@ dispatch groups threads pack = callOf (replicate 64 0) (header 0x20 0 0 0 groups
 abbrev pub oneThread : ℕ → Call
 oneThread w = dispatch 1 1 (packOf w)
 
--- the pack of one kernel of two words, and of one of five
-abbrev pub packOf2 : ℕ → ℕ → List ℕ
-packOf2 w0 w1 = wordBytes 1 ++ wordBytes 0 ++ wordBytes 2 ++ wordBytes 2 ++ wordBytes w0 ++ wordBytes w1
+-- the bytes of words one after another
+unfoldable pub bytesOfWords : List ℕ → List ℕ
+bytesOfWords [] = []
+bytesOfWords (w ∷ words) = wordBytes w ++ bytesOfWords words
 
-abbrev pub packOf5 : ℕ → ℕ → ℕ → ℕ → ℕ → List ℕ
-packOf5 w0 w1 w2 w3 w4 =
-    wordBytes 1 ++ wordBytes 0 ++ wordBytes 5 ++ wordBytes 5 ++ wordBytes w0 ++ wordBytes w1 ++ wordBytes w2 ++ wordBytes w3 ++ wordBytes w4
+-- the pack of one kernel of these words
+abbrev pub packOfWords : List ℕ → List ℕ
+packOfWords words = bytesOfWords (1 ∷ 0 ∷ length words ∷ length words ∷ words)
 
 -- a thread with x in each word of v1, and y in each of v2
 abbrev pub holding : ℕ → ℕ → Thread
@@ -155,7 +156,8 @@ pub record Table : Type 0 where
       × ((limit groups threads : ℕ) (window : List ℕ) → 1 ≤ limit → 1 ≤ groups → 1 ≤ threads → length window ≤ 4294967292
       → siteOf (dispatchOf limit (packOf 0xFE502E0D) 0 groups threads window .ran) ≡ siteAt 4294967292 0 0 0)
       × StopOn0 13 (siteAt 4294967292 0 0 0) (turnOf (framed 64 0) (oneThread 0xFE502E0D))
-  -- 0000000E branches to itself: 14, in any dispatch under any limit, and as a whole turn under each limit from 1 to 65,536
+  -- 0000000E branches to itself: 14, in any dispatch under any limit, and as a whole turn under each limit from 1 to 65,536, at
+  -- place 0 of thread 0 of group 0
   pub p9 : ((limit groups threads : ℕ) (window : List ℕ) → 1 ≤ groups → 1 ≤ threads
       → EndsWith 14 window (dispatchOf limit (packOf 0x0000000E) 0 groups threads window))
       × ((limit : ℕ) → 1 ≤ limit → limit ≤ 65536 → StopOn0 14 (siteAt 0 0 0 0) (turnOf (framedUnder limit 64 0) (oneThread 0x0000000E)))
@@ -182,11 +184,11 @@ pub record WhereStopped : Type 0 where
   -- s5 is 2·group + thread (ADD s5, s1, s1 and ADD s5, s5, s2), then 4 times that (SHL); SW at 42 from s5, and WFI: of 3 groups of 2
   -- threads only the last thread of the last group reaches out, at place 12
   pub last : StopOn0 13 (siteAt 64 12 2 1)
-      (turnOf (framedUnder 5 64 0) (dispatch 3 2 (packOf5 0x0010828B 0x0022828B 0x00229297 0x0202A50D 0x0000700F)))
+      (turnOf (framedUnder 5 64 0) (dispatch 3 2 (packOfWords (0x0010828B ∷ 0x0022828B ∷ 0x00229297 ∷ 0x0202A50D ∷ 0x0000700F ∷ []))))
   -- FFF00297 (ADDI), then 0000020E, a branch to the kernel's end: 12 at the branch's own place
-  pub branch : StopOn0 12 (siteAt 0 4 0 0) (turnOf (framedUnder 5 64 0) (dispatch 1 1 (packOf2 0xFFF00297 0x0000020E)))
+  pub branch : StopOn0 12 (siteAt 0 4 0 0) (turnOf (framedUnder 5 64 0) (dispatch 1 1 (packOfWords (0xFFF00297 ∷ 0x0000020E ∷ []))))
   -- FFF00297 (ADDI), then FFFFFFFF: 11 at its place
-  pub unlisted : StopOn0 11 (siteAt 0 4 0 0) (turnOf (framedUnder 5 64 0) (dispatch 1 1 (packOf2 0xFFF00297 0xFFFFFFFF)))
+  pub unlisted : StopOn0 11 (siteAt 0 4 0 0) (turnOf (framedUnder 5 64 0) (dispatch 1 1 (packOfWords (0xFFF00297 ∷ 0xFFFFFFFF ∷ []))))
 
 -- edition 2 from 4,294,967,294: ring 0 emits three times to slot 5, by 4,294,967,295 and 0 to 1; ring 1 waits for 1 and is
 -- served then, not before; then no ring is ready

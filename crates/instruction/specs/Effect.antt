@@ -17,7 +17,7 @@ use Rattle.instruction.specs.declared.effect.Effect.the-variants.{Put, P
 use Rattle.instruction.specs.Meaning.{aluOf, unaryOf, holdsOf}
 use Rattle.instruction.specs.Vectors.{quadOf, lanesOfQuads, broadcast}
 
--- what was read goes to scalar rd, unless the load is not wholly in the window
+-- what was read goes to scalar rd; of a load not wholly in the window the first address that is not inside is handed on
 unfoldable pub loadedEffect : Loaded → Effect
 loadedEffect (Value x) = Put x
 loadedEffect (NoValue first) = Outside first

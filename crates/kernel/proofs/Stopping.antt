@@ -1,8 +1,8 @@
--- A stop changes nothing: the thread and the window stay as the steps before it left them. Which step it was that stopped.
+-- A stop changes nothing: the thread and the window stay as the steps before it left them. Which step it was that stopped it.
 -- Assumes nothing.
 use mathlib.Core.Path.{_≡_, refl, subst, ap, _∙_}
 use mathlib.Core.List.{List}
-use Prim.Native.Nat.{ℕ, zero, suc, _+_, _≤_, _<_}
+use Prim.Native.Nat.{ℕ, zero, suc, _+_, _≤_}
 use native.Mathlib.Omega.{arith}
 use Rattle.pack.specs.declared.kernels.Kernel.{Kernel}
 use Rattle.kernel.specs.declared.step.Stop.{Stop}
@@ -51,7 +51,6 @@ module _ (limit : ℕ) (pack : List ℕ) (kernel : Kernel) (t : Thread) (window 
   -- the step that stopped a thread: it was running before it, and is since as it was then
   pub record StoppingStep (n : ℕ) (why : Stop) : Type 0 where
     pub steps : ℕ
-    pub below : steps < n
     pub standing : Thread
     pub window-there : List ℕ
     pub still : stepsOf steps limit pack kernel t window ≡ running standing window-there
@@ -78,7 +77,6 @@ module _ (limit : ℕ) (pack : List ℕ) (kernel : Kernel) (t : Thread) (window 
           let stop = stopped-step limit pack kernel (here .stepped .thread) (here .window) why (rw next at e) in
           record {
             steps = n;
-            below = omega arith;
             standing = here .stepped .thread;
             window-there = here .window;
             still = ap (λ p. record { stepped = record { thread = here .stepped .thread; progress = p }; window = here .window }) now;
@@ -93,7 +91,6 @@ module _ (limit : ℕ) (pack : List ℕ) (kernel : Kernel) (t : Thread) (window 
           let s = lower (rw same at e) in
           record {
             steps = s .steps;
-            below = omega (arith, s .below);
             standing = s .standing;
             window-there = s .window-there;
             still = s .still;

@@ -10,6 +10,7 @@ use Rattle.memory.specs.After.{after}
 use Rattle.memory.proofs.After.{after-agree, after-stays, after-rows}
 use Rattle.pack.specs.declared.kernels.Kernel.{Kernel}
 use Rattle.kernel.specs.declared.step.Stop.{Stop}
+use Rattle.kernel.specs.declared.step.Stop.the-variants.{OutOfSteps}
 use Rattle.kernel.specs.declared.step.Progress.{Progress}
 use Rattle.kernel.specs.declared.step.Progress.the-variants.{Running, Ended, Stopped}
 use Rattle.kernel.specs.declared.dispatch.ThreadStop.{ThreadStop}
@@ -17,10 +18,10 @@ use Rattle.kernel.specs.declared.dispatch.Ran.the-variants.{Done, Stoppe
 use Rattle.pack.specs.Kernels.{kernelOf}
 use Rattle.kernel.specs.Thread.{started}
 use Rattle.kernel.specs.Step.{State}
-use Rattle.kernel.specs.Run.{runOf}
+use Rattle.kernel.specs.Run.{stepsOf, runOf}
 use Rattle.kernel.specs.Dispatch.{Dispatched, ranOf, shown, ifDone, going, threadOf, threadMore, threadsOf, dispatchOf}
 use Rattle.kernel.proofs.Dispatches.{no-thread, one-thread-more}
-use Rattle.kernel.proofs.StepLimit.{run-not-running}
+use Rattle.kernel.proofs.StepLimit.{run-not-running, out-of-steps}
 
 -- thread g · threads + j is thread j of group g
 pub group-of : (g j threads : ℕ) → j < threads → (g * threads + j) / threads ≡ g
@@ -53,11 +54,13 @@ pub record StopOf (group thread : ℕ) (s : State) (stop : ThreadStop) : Type 0 
   pub told : stop ≡ record { why = stop .why; place = s .stepped .thread .place; group = group; thread = thread }
 
 module _ (group thread : ℕ) (s : State) where
+  -- a thread that has stopped is shown so
   pub stopped-shown : (why : Stop) → s .stepped .progress ≡ Stopped why
       → shown group thread s .ran ≡ StoppedFor (record { why = why; place = s .stepped .thread .place; group = group; thread = thread })
   unfolding shown ranOf
   stopped-shown why e = rw e
 
+  -- and only one that has
   pub shown-stopped : (stop : ThreadStop) → shown group thread s .ran ≡ StoppedFor stop → StopOf group thread s stop
   unfolding shown
   shown-stopped stop e =
@@ -88,6 +91,14 @@ module _ (limit : ℕ) (pack : List ℕ) (kernel : Kernel) (groups threads : ℕ
       ran-done _ g j _ (run-not-running limit pack kernel (started g j threads groups) window (starts-fresh g j threads groups)),
       λ e. rw e,
     )
+
+    -- it is stopped with 14 exactly if it is still running after the limit's steps
+    pub thread-out-of-steps : (shown g j (runOfThread g j window) .ran
+        ≡ StoppedFor (record { why = OutOfSteps; place = runOfThread g j window .stepped .thread .place; group = g; thread = j }))
+        ↔ (stepsOf limit limit pack kernel (started g j threads groups) window .stepped .progress ≡ Running)
+    thread-out-of-steps =
+        let run = out-of-steps limit pack kernel (started g j threads groups) window (starts-fresh g j threads groups) in
+        (λ e. run .0 (shown-stopped g j (runOfThread g j window) _ e .why), λ e. stopped-shown g j (runOfThread g j window) OutOfSteps (run .1 e))
 
   module _ (window : List ℕ) where
     -- the first n threads

@@ -74,7 +74,7 @@ bytes : KeptByStores Bytes
 bytes = record { store = λ m width a v h. store-bytes m h width a v; quad = λ m a q h. store-quad-bytes m h a q }
 
 module _ (limit : ℕ) (pack : List ℕ) (window : List ℕ) where
-  -- no step, run, threads or dispatch change the window's length
+  -- no step, run, thread or dispatch changes the window's length
   pub step-length : (kernel : Kernel) (t : Thread) → length (stepOf limit pack kernel t window .window) ≡ length window
   step-length kernel t = step-keeps _ (long (length window)) limit pack kernel t window refl
 

@@ -6,7 +6,6 @@ use Rattle.memory.specs.After.{after}
 use Rattle.pack.specs.declared.kernels.Kernel.{Kernel}
 use Rattle.kernel.specs.declared.step.Progress.{Progress}
 use Rattle.kernel.specs.declared.step.Progress.the-variants.{Running, Ended, Stopped}
-use Rattle.kernel.specs.declared.dispatch.ThreadStop.{ThreadStop}
 use Rattle.kernel.specs.declared.dispatch.Ran.{Ran}
 use Rattle.kernel.specs.declared.dispatch.Ran.the-variants.{Done, Stopped as StoppedFor}
 use Rattle.pack.specs.Kernels.{kernelOf}

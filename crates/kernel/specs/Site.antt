@@ -21,7 +21,7 @@ addressOf OffTheKernel = 0
 addressOf (OutsideTheWindow first) = first
 addressOf OutOfSteps = 0
 
--- the address, and the place, group and thread of the thread that stopped
+-- of a dispatch that is done four zeros; else the address, and the place, group and thread of the thread that stopped
 unfoldable pub siteOf : Ran → Site
 siteOf Done = noSite
 siteOf (Stopped stop) = siteAt (addressOf (stop .why)) (stop .place) (stop .group) (stop .thread)

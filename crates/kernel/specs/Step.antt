@@ -61,7 +61,7 @@ branched length offset t =
     (record { thread = movedTo t (sum 32 (t .place) offset); progress = Running })
     (stops OffTheKernel t)
 
--- a store not wholly in the window stops the thread
+-- a store not wholly in the window stops the thread, and the first address that is not inside is handed on
 unfoldable pub afterStore : Reach → Thread → Stepped
 afterStore reach t = ifInside reach (goesOn t) (λ first. stops (OutsideTheWindow first) t)
 

@@ -5,7 +5,7 @@ use crate::dispatch::Ran;
 use crate::step::Stop;
 
 pub struct Site {
-    // The first address that is not inside the window, of a load or store that reached it.
+    // The first address that is not inside the window, of a load or store that reached it; else 0.
     pub address: u32,
     // Where the thread stood, in bytes from the kernel's start.
     pub place: u32,

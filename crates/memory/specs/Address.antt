@@ -5,12 +5,12 @@ use lib.Dec.{leb, ltb}
 use Rattle.memory.specs.declared.address.Reach.{Reach}
 use Rattle.memory.specs.declared.address.Reach.the-variants.{Inside, Outside}
 
--- of an access not wholly inside, the first address that is not inside: its own, or the window's length if it begins inside;
--- an address has 32 bits
+-- of an access not wholly inside, the first address that is not inside: its own, or the window's length if it begins inside (an
+-- address has 32 bits, and no device has a window that long)
 unfoldable pub firstOutside : ℕ → ℕ → ℕ
 firstOutside length address = cond (ltb address length) (length % 2 ^ 32) address
 
--- either `count` bytes from `address` on lie wholly in a window of `length` bytes, or the first address that is not inside; the test
+-- inside if `count` bytes from `address` on lie wholly in a window of `length` bytes, else the first address that is not; the test
 -- does not wrap
 unfoldable pub reachOf : ℕ → ℕ → ℕ → Reach
 reachOf length address count = cond (leb (address + count) length) Inside (Outside (firstOutside length address))

@@ -8,7 +8,7 @@ pub enum Reach {
     Outside(u32),
 }
 
-// Of an access that is not wholly inside.
+// The first address that is not inside, of an access that is not wholly so.
 fn first_outside(length: usize, address: u32) -> u32
     ensures { λ r. ⌜ r ≡ firstOutside length address ⌝ }
 {
@@ -19,7 +19,7 @@ fn first_outside(length: usize, address: u32) -> u32
     }
 }
 
-// Whether `count` bytes from `address` on lie wholly in a window of `length` bytes.
+// Whether `count` bytes from `address` on lie wholly in a window of `length` bytes, or the first address that does not.
 pub fn test(length: usize, address: u32, count: usize) -> Reach
     ensures { λ r. ⌜ r ≡ reachOf length address count ⌝ }
 {

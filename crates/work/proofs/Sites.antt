@@ -1,4 +1,4 @@
--- Which commands tell where a thread stopped, and which of them tell an address.
+-- Which commands tell where a thread stopped, and which stops tell an address.
 -- Assumes nothing.
 use mathlib.Core.Path.{_≡_, refl}
 use mathlib.Core.Bool.{Bool, true}
@@ -30,11 +30,6 @@ stop-no-address OffTheKernel not = refl
 stop-no-address (OutsideTheWindow first) not = absurd (not refl)
 stop-no-address OutOfSteps not = refl
 
-ran-no-address : (r : Ran) → (outcomeNumber (ranOutcome r) ≡ 13 → ⊥) → siteOf r .address ≡ 0
-unfolding ranOutcome siteOf
-ran-no-address Done not = refl
-ran-no-address (Stopped stop) not = stop-no-address (stop .why) not
-
 -- a dispatch that is done tells of no stop
 ran-no-stop : (r : Ran) → outcomeNumber (ranOutcome r) ≤ 10 → siteOf r ≡ noSite
 unfolding ranOutcome siteOf
@@ -65,36 +60,16 @@ module _ (c : Command) (full : Bool) (ring window : List ℕ) (frame : Frame) (p
       (λ h. refl))
       (λ faulty h. refl)
 
-  -- only 13 tells an address
-  abbrev NoAddress : Left → Type 0
-  NoAddress l = (outcomeNumber (l .performed .outcome) ≡ 13 → ⊥) → l .performed .site .address ≡ 0
-
-  pub performed-no-address : NoAddress left
-  unfolding leaves afterDispatch ranAs
-  performed-no-address =
-      performed-has c full ring window frame pack pipe limit NoAddress
-      (λ fine.
-      work-has c ring window frame pack pipe limit NoAddress
-      (λ e not. refl)
-      (λ e not. refl)
-      (λ e not. refl)
-      (λ e not. refl)
-      (λ e not. ran-no-address _ not)
-      (λ e not. refl)
-      (λ e not. refl)
-      (λ not. refl))
-      (λ faulty not. refl)
-
   -- 11 to 14 are the outcomes of a DISPATCH_1D with no fault alone
-  abbrev Stops : Left → Type 0
-  Stops l = 11 ≤ outcomeNumber (l .performed .outcome) → (isDone (faultOf c full (length window) frame pack) ≡ true) × (c .opcode ≡ dispatch1D)
+  abbrev OnlyDispatch : Left → Type 0
+  OnlyDispatch l = 11 ≤ outcomeNumber (l .performed .outcome) → (isDone (faultOf c full (length window) frame pack) ≡ true) × (c .opcode ≡ dispatch1D)
 
-  pub performed-stops : Stops left
+  pub performed-stops : OnlyDispatch left
   unfolding leaves
   performed-stops =
-      performed-has c full ring window frame pack pipe limit Stops
+      performed-has c full ring window frame pack pipe limit OnlyDispatch
       (λ fine.
-      work-has c ring window frame pack pipe limit Stops
+      work-has c ring window frame pack pipe limit OnlyDispatch
       (λ e h. absurd (omega (arith, h)))
       (λ e h. absurd (omega (arith, h)))
       (λ e h. absurd (omega (arith, h)))
