@@ -316,9 +316,10 @@ struct fv_report {
     /* Which thread stopped a dispatch, with outcome 11 to 14; else all four are 0. */
     uint32_t address;             /* 13: the first address that is not inside the window: the access's own, or the
                                    * window's length if it begins inside; 11, 12, 14: 0 */
-    uint32_t place;               /* where the thread stood: bytes from its kernel's start. Of a branch to no place
-                                   * its own, past the last word the kernel's length */
-    uint32_t group;               /* the thread's group, */
+    uint32_t place;               /* where the thread stood, in bytes from its kernel's start: at the word, branch,
+                                   * load or store that was not done (14: the step not taken); past the last word
+                                   * the kernel's length */
+    uint32_t group;               /* the thread's group, from 0, */
     uint32_t thread;              /* and its number in it, from 0 */
 };
 

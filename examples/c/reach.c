@@ -1,4 +1,4 @@
-/* Who wrote there? Where a kernel's thread is stopped, the report tells which thread it was, at which instruction it stood and
+/* Who reached there? Where a kernel's thread is stopped, the report tells which thread it was, at which instruction it stood and
  * what it reached for. */
 #include <stdio.h>
 #include <string.h>
@@ -10,7 +10,8 @@ enum { ROWS = 8, COLUMNS = 8, STRIDE = 4 * COLUMNS, SIZE = ROWS * STRIDE, KERNEL
 static uint8_t image[FV_IMAGE_BYTES], memory[SIZE], commands[KERNELS * FV_HEADER_BYTES];
 static uint8_t pack[192], pipe[FV_PIPE_LEAST];
 
-/* A kernel that goes over a picture, a group for a row and a thread for a pixel; `access` is what it does there. */
+/* A kernel that goes over a picture, a group for a row and a thread for a pixel: `access` is what it does there, `last` its
+ * last word. */
 static void over_a_picture(uint32_t words[WORDS], uint32_t access, uint32_t last)
 {
     words[0] = fv_i(FV_SHLI, 5, 1, 5);                            /* s5 = row * STRIDE */
