@@ -85,8 +85,7 @@ static void count_access(const struct served *v, const struct trace *trace,
 {
     const struct ind_ring *ring = &v->device.rings[v->report.ring];
     struct access access = trace_access(trace, kernel);
-    int32_t imm = access.bytes == VECTOR_BYTES
-        ? 0 : (int32_t)access.instruction.imm;
+    int32_t imm = (int32_t)access.instruction.imm;
     uint32_t held = access.address - (uint32_t)imm;
 
     count.reach[access.row][reach_of(&access, ring->window_length)]++;

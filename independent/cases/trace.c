@@ -53,8 +53,7 @@ struct access trace_access(const struct trace *trace,
     const struct ind_instruction *in = &access.instruction;
     int wide = in->kind == KIND_VLD || in->kind == KIND_VST;
 
-    access.address = in->rs1 == 0 ? 0 : last->scalar[in->rs1];
-    access.address += wide ? 0 : in->imm;
+    access.address = (in->rs1 == 0 ? 0 : last->scalar[in->rs1]) + in->imm;
     access.bytes = wide ? VECTOR_BYTES : in->size;
     return access;
 }

@@ -18,7 +18,8 @@ void trace_dispatch(struct trace *trace, const struct ind_kernel *kernel,
                     const struct ind_window *window,
                     const struct ind_command *command, uint32_t limit);
 
-/* The load or store at which the last thread stopped with 13. */
+/* The load or store at which the last thread stopped with 13. The immediate of
+ * one of 16 bytes is 0. */
 struct access {
     int row;
     uint32_t address, bytes;

@@ -50,16 +50,24 @@ static uint32_t branch(struct ind_thread *thread,
     return IND_GOES_ON;
 }
 
+/* Whether all bytes lie in the window; if not, the first address outside. */
+static int lies_inside(const struct ind_window *window, uint32_t address,
+                       uint32_t bytes, uint32_t *outside)
+{
+    struct ind_reach reach = ind_reach(window, address, bytes);
+
+    *outside = reach.outside;
+    return reach.inside;
+}
+
 static uint32_t load_or_store(struct ind_thread *thread,
                               const struct ind_instruction *in,
                               const struct ind_window *window,
                               uint32_t *outside)
 {
     uint32_t address = read_scalar(thread, in->rs1) + in->imm;
-    struct ind_reach reach = ind_reach(window, address, in->size);
 
-    *outside = reach.outside;
-    if (!reach.inside)
+    if (!lies_inside(window, address, in->size, outside))
         return IND_BAD_ACCESS;
     if (in->kind == KIND_STORE) {
         ind_store(window, address, in->size, read_scalar(thread, in->rs2));
@@ -76,10 +84,8 @@ static uint32_t vector_load_or_store(struct ind_thread *thread,
                                      uint32_t *outside)
 {
     uint32_t address = read_scalar(thread, in->rs1);
-    struct ind_reach reach = ind_reach(window, address, VECTOR_BYTES);
 
-    *outside = reach.outside;
-    if (!reach.inside)
+    if (!lies_inside(window, address, VECTOR_BYTES, outside))
         return IND_BAD_ACCESS;
     for (uint32_t i = 0; i < IND_VECTOR_WORDS; i++) {
         if (in->kind == KIND_VST)

@@ -75,7 +75,7 @@ struct ind_instruction {
     enum ind_kind kind;
     enum ind_op op;
     uint32_t rd, rs1, rs2;
-    uint32_t imm;       /* sign extended, by the instruction's shape */
+    uint32_t imm;       /* sign extended, by the instruction's shape, or 0 */
     uint32_t takes_imm; /* second operand is imm, not register rs2 */
     uint32_t size;      /* bytes of a load or store, or of a lane */
 };

@@ -314,7 +314,8 @@ static void words_of_the_report(void)
         CHECK_EQ(get_word(report + 4 * i), i == 0 ? 1 : 0);
 }
 
-/* Every other length, that of 7 words too: 202, and not a byte is written. */
+/* Every other length, that without a stop too: 202, and not a byte is
+ * written. */
 static void lengths_of_the_report(void)
 {
     uint8_t report[2 * REPORT], kept[2 * REPORT];

@@ -2,8 +2,9 @@
 # mutants.sh BUILD SEED: builds each error of self.c, editions.c and stops.c into the comparison, which must tell it, and
 # none, which must not differ.
 # The errors about NULL are built into the comparison of empty pieces too, and errors 18, 32 and 88, which show with an
-# empty piece whether or not it is NULL, errors 35, 36 and 61 to 63, as counts of commands and a fence go round there, and
-# errors 99, 101, 107, 126 and 128, as a kernel stops in an empty window there.
+# empty piece whether or not it is NULL, errors 35, 36 and 61 to 63, as counts of commands and a fence go round there,
+# errors 99, 101, 107 and 126, as a kernel stops in an empty window there, and error 128, as the bytes behind the report
+# are watched there too.
 # BUILD: the folder of this folder's objects; CC, CFLAGS and LDFLAGS as for make.
 set -eu
 here=$(cd "$(dirname "$(readlink -f "$0")")" && pwd -P)

@@ -11,9 +11,6 @@ enum {
     RING = WORD * IND_REPORT_RING,
     OUTCOME = WORD * IND_REPORT_OUTCOME,
     ADDRESS = WORD * IND_REPORT_ADDRESS,
-    PLACE = WORD * IND_REPORT_PLACE,
-    GROUP = WORD * IND_REPORT_GROUP,
-    THREAD = WORD * IND_REPORT_THREAD,
     STOP_BYTES = IND_REPORT_BYTES - ADDRESS
 };
 
@@ -34,23 +31,20 @@ struct again {
     struct ind_command command;
     struct ind_kernel kernel;
     struct trace trace;
-    struct ind_stop stop;
-    uint32_t limit, outcome;
+    struct ind_report report;
+    uint32_t limit;
 };
 
 static struct again run_again(const struct turned *t)
 {
-    uint32_t number = ind_get(t->report + RING, WORD);
     struct ind_device device;
-    struct ind_report report;
     struct again again;
 
     ind_image_decode(t->before, &device);
-    ind_report_decode(t->report, &report);
+    ind_report_decode(t->report, &again.report);
+    uint32_t number = again.report.ring;
     again.ring = device.rings[number];
     again.limit = device.limit;
-    again.outcome = report.outcome;
-    again.stop = report.stop;
     if (!ind_command_whole(t->ring[number], t->ring_len[number],
                            again.ring.cursor, &again.command)
         || !ind_kernel_extent(t->pack, t->pack_len, again.command.arg2,
@@ -98,13 +92,12 @@ static uint32_t wrong_across(const struct again *a, const struct access *access)
 static uint32_t wrong_address(const struct again *a)
 {
     struct access access = trace_access(&a->trace, &a->kernel);
-    uint32_t told = a->stop.address, length = a->ring.window_length;
-    int wide = access.bytes == VECTOR_BYTES;
+    uint32_t told = a->report.stop.address, length = a->ring.window_length;
 
     if (access.address < length)
         told = wrong_across(a, &access);
     if (MUTANT == 98) /* before the immediate */
-        return wide ? told : told - access.instruction.imm;
+        return told - access.instruction.imm;
     if (MUTANT == 99) /* always the window's length */
         return length;
     if (MUTANT == 100) /* from the memory's start */
@@ -121,12 +114,13 @@ static uint32_t wrong_address(const struct again *a)
 /* The address with another outcome than 13. */
 static uint32_t address_though_none(const struct again *a)
 {
-    switch (a->outcome) {
+    uint32_t place = a->report.stop.place;
+
+    switch (a->report.outcome) {
     case IND_NOT_LISTED: /* the word */
-        return MUTANT == 104 ? ind_get(a->kernel.code + a->stop.place, WORD)
-                             : 0;
+        return MUTANT == 104 ? ind_get(a->kernel.code + place, WORD) : 0;
     case IND_BAD_PLACE:
-        return MUTANT == 105 ? a->stop.place : 0;
+        return MUTANT == 105 ? place : 0;
     default: /* the steps */
         return MUTANT == 106 ? a->limit : 0;
     }
@@ -137,14 +131,16 @@ static uint32_t address_though_none(const struct again *a)
 /* Where a taken branch leads. */
 static uint32_t branch_target(const struct again *a)
 {
-    return a->stop.place
-        + ind_decode(ind_get(a->kernel.code + a->stop.place, WORD)).imm;
+    uint32_t place = a->report.stop.place;
+
+    return place + ind_decode(ind_get(a->kernel.code + place, WORD)).imm;
 }
 
 static uint32_t wrong_place(const struct again *a)
 {
-    uint32_t place = a->stop.place, end = WORD * a->kernel.words;
-    int spent = a->outcome == IND_STEPS_SPENT;
+    uint32_t place = a->report.stop.place, end = WORD * a->kernel.words;
+    uint32_t outcome = a->report.outcome;
+    int spent = outcome == IND_STEPS_SPENT;
 
     switch (MUTANT) {
     case 107: /* of the next instruction */
@@ -154,14 +150,14 @@ static uint32_t wrong_place(const struct again *a)
     case 109: /* from the code's start */
         return place + WORD * a->kernel.first;
     case 110: /* where the branch leads */
-        return a->outcome == IND_BAD_PLACE && place < end ? branch_target(a)
-                                                          : place;
+        return outcome == IND_BAD_PLACE && place < end ? branch_target(a)
+                                                       : place;
     case 111: /* past the end: of the last word */
         return !spent && place == end ? place - WORD : place;
     case 112: /* the same of 14 */
         return spent && place == end ? place - WORD : place;
     case 113: /* with 13 alone */
-        return a->outcome == IND_BAD_ACCESS ? place : 0;
+        return outcome == IND_BAD_ACCESS ? place : 0;
     default:
         return place;
     }
@@ -169,9 +165,10 @@ static uint32_t wrong_place(const struct again *a)
 
 /* ---- group and thread ---- */
 
-static void err_thread(const struct again *a, struct ind_stop *stop)
+static void err_thread(struct again *a)
 {
     const struct ind_thread *last = &a->trace.last;
+    struct ind_stop *stop = &a->report.stop;
     uint32_t group = stop->group, thread = stop->thread;
 
     switch (MUTANT) {
@@ -191,7 +188,7 @@ static void err_thread(const struct again *a, struct ind_stop *stop)
         stop->thread++;
         break;
     case 118: /* with 13 alone */
-        if (a->outcome != IND_BAD_ACCESS)
+        if (a->report.outcome != IND_BAD_ACCESS)
             stop->group = stop->thread = 0;
         break;
     default:
@@ -199,24 +196,16 @@ static void err_thread(const struct again *a, struct ind_stop *stop)
     }
 }
 
-static void put_stop(uint8_t *report, const struct ind_stop *stop)
-{
-    ind_put(report + ADDRESS, WORD, stop->address);
-    ind_put(report + PLACE, WORD, stop->place);
-    ind_put(report + GROUP, WORD, stop->group);
-    ind_put(report + THREAD, WORD, stop->thread);
-}
-
 static void err_stopped(struct turned *t)
 {
     struct again again = run_again(t);
-    struct ind_stop stop = again.stop;
+    struct ind_stop *stop = &again.report.stop;
 
-    stop.address = again.outcome == IND_BAD_ACCESS
+    stop->address = again.report.outcome == IND_BAD_ACCESS
         ? wrong_address(&again) : address_though_none(&again);
-    stop.place = wrong_place(&again);
-    err_thread(&again, &stop);
-    put_stop(t->report, &stop);
+    stop->place = wrong_place(&again);
+    err_thread(&again);
+    ind_report_encode(&again.report, t->report);
 }
 
 /* ---- no stop ---- */
@@ -225,14 +214,15 @@ static void err_stopped(struct turned *t)
 static void err_done(struct turned *t)
 {
     struct again again = run_again(t);
+    struct ind_stop *stop = &again.report.stop;
 
     if (MUTANT == 119) {
-        again.stop.group = again.command.arg0 - 1;
-        again.stop.thread = again.command.arg1 - 1;
+        stop->group = again.command.arg0 - 1;
+        stop->thread = again.command.arg1 - 1;
     }
     if (MUTANT == 120)
-        again.stop.place = again.trace.last.place;
-    put_stop(t->report, &again.stop);
+        stop->place = again.trace.last.place;
+    ind_report_encode(&again.report, t->report);
 }
 
 static int ran(const struct turned *t)

@@ -245,7 +245,7 @@ void make_late(struct maker *m, uint32_t limit)
         return;
     }
     emit_choice(m);
-    if (mille(m->c, 250)) { /* where a stop is told, they say nothing */
+    if (mille(m->c, 250)) { /* s1 and s2 changed: a stop does not go by them */
         emit(m, word_i(ROW_ADDI, 1, 1, between(m->c, 1, 4)));
         emit(m, word_i(ROW_ADDI, 2, 0, between(m->c, 0, 4)));
     }

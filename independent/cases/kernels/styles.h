@@ -16,7 +16,7 @@ enum style {
     STYLE_FAR,      /* long branches */
     STYLE_BRIEF,    /* few instructions, results stored */
     STYLE_MISS,     /* one word that is not listed */
-    STYLE_LATE      /* a thread of some number stops, the others end */
+    STYLE_LATE      /* a thread of some number stops, those before it end */
 };
 
 /* Writes one kernel, made for a window of this length and a limit of steps, of
