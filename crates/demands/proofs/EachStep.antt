@@ -135,7 +135,7 @@ dispatch-fourteen d call served is =
     let same = dispatch-served d call served is .outcome in
     (λ n. first .0 (sym same ∙ n), λ f. same ∙ first .1 f)
 
--- a ring's window is no longer than the memory that it lies in
+-- the served ring's window lies in the memory, and so is shorter than 2^32 bytes
 window-short : (d : Device) (call : Call) → numberIn d call ≡ 0 → length (windowIn d call (ringServed d call)) < 2 ^ 32
 unfolding valuesOf
 window-short d call number =

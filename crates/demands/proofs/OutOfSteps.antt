@@ -14,7 +14,7 @@ use Rattle.kernel.specs.declared.dispatch.Ran.{Ran}
 use Rattle.kernel.specs.declared.dispatch.Ran.the-variants.{Done, Stopped as StoppedFor}
 use Rattle.kernel.specs.Thread.{started}
 use Rattle.kernel.specs.Run.{runOf}
-use Rattle.kernel.specs.Dispatch.{Dispatched, threadOf, threadsOf}
+use Rattle.kernel.specs.Dispatch.{Dispatched, stopAt, threadOf, threadsOf}
 use Rattle.kernel.proofs.Dispatches.{threads-positive}
 use Rattle.kernel.proofs.Threads.{shown-stopped, thread-number, thread-out-of-steps, stopped-by}
 use Rattle.command.specs.Outcome.{outcomeNumber}
@@ -31,10 +31,6 @@ fourteen OffTheKernel e = absurd (omega (arith, e))
 fourteen (OutsideTheWindow first) e = absurd (omega (arith, e))
 fourteen OutOfSteps e = refl
 
--- a stop of this thread of this group, at this place
-abbrev stopAt : ℕ → ℕ → ℕ → Stop → ThreadStop
-stopAt place group thread why = record { why = why; place = place; group = group; thread = thread }
-
 module _ (limit : ℕ) (pack : List ℕ) (kernel : Kernel) (groups threads : ℕ) (window : List ℕ) where
   -- all threads
   abbrev all : Dispatched
@@ -49,7 +45,7 @@ module _ (limit : ℕ) (pack : List ℕ) (kernel : Kernel) (groups threads : ℕ
       let j = s .number % threads in
       let t = started g j threads groups in
       let run = runOf limit pack kernel t (s .left) in
-      let told = shown-stopped g j run stop (s .stopped) .told ∙ ap (stopAt (run .stepped .thread .place) g j) out in
+      let told = shown-stopped g j run stop (s .stopped) .told ∙ ap (λ why. stopAt why (run .stepped .thread .place) g j) out in
       record {
         group = g;
         thread = j;
@@ -64,7 +60,7 @@ module _ (limit : ℕ) (pack : List ℕ) (kernel : Kernel) (groups threads : ℕ
   unfolding ranOutcome stopOutcome
   first-then-out f =
       let run = runOf limit pack kernel (started (f .group) (f .thread) threads groups) (f .window-before) in
-      let stop = stopAt (run .stepped .thread .place) (f .group) (f .thread) OutOfSteps in
+      let stop = stopAt OutOfSteps (run .stepped .thread .place) (f .group) (f .thread) in
       let shows = thread-out-of-steps limit pack kernel groups threads (f .group) (f .thread) (f .window-before) .1 (f .still) in
       let number = thread-number limit pack kernel groups threads (f .group) (f .thread) (f .window-before) (f .thread-below) in
       let below = number-below (f .group) (f .thread) groups threads (f .group-below) (f .thread-below) in

@@ -26,7 +26,7 @@ use Rattle.kernel.specs.Registers.{scalarOf}
 use Rattle.kernel.specs.Thread.{started}
 use Rattle.kernel.specs.Step.{stops, stoppedAs, stepOf}
 use Rattle.kernel.specs.Run.{running, runOf}
-use Rattle.kernel.specs.Dispatch.{Dispatched, shown, going, threadOf, threadsOf}
+use Rattle.kernel.specs.Dispatch.{Dispatched, stopAt, shown, going, threadOf, threadsOf}
 use Rattle.kernel.specs.Site.{siteAt, addressOf, siteOf}
 use Rattle.kernel.proofs.Dispatches.{threads-positive, no-thread, one-thread-more}
 use Rattle.kernel.proofs.StepLimit.{running-within}
@@ -55,32 +55,32 @@ address-reached limit pack kernel t window (OutsideTheWindow first) small e n = 
 address-reached limit pack kernel t window OutOfSteps small e n = absurd (omega (arith, n))
 
 module _ (limit : ℕ) (pack : List ℕ) (kernel : Kernel) (groups threads : ℕ) (window : List ℕ) where
-  -- the first n threads, and all
-  abbrev first : ℕ → Dispatched
-  first n = threadsOf n limit pack kernel groups threads window
+  -- the firstThreads n threads, and all
+  abbrev firstThreads : ℕ → Dispatched
+  firstThreads n = threadsOf n limit pack kernel groups threads window
 
   abbrev all : Dispatched
-  all = first (groups * threads)
+  all = firstThreads (groups * threads)
 
   -- the thread that stopped them
   pub record Stopper (n : ℕ) (stop : ThreadStop) : Type 0 where
     pub number : ℕ
     pub below : number < n
     pub left : List ℕ
-    pub before : first number ≡ going left
+    pub before : firstThreads number ≡ going left
     pub stopped : threadOf limit pack kernel groups threads number left .ran ≡ Stopped stop
 
-  pub stopper : (n : ℕ) (stop : ThreadStop) → first n .ran ≡ Stopped stop → Stopper n stop
+  pub stopper : (n : ℕ) (stop : ThreadStop) → firstThreads n .ran ≡ Stopped stop → Stopper n stop
   stopper zero stop e =
       let none = no-thread limit pack kernel groups threads window in
       absurd (let z : _≡_ {A = ℕ} 0 1 = cc in omega arith)
-  stopper (suc n) stop e = go (first n .ran) refl (stopper n stop)
+  stopper (suc n) stop e = go (firstThreads n .ran) refl (stopper n stop)
     where
-      go : (r : Ran) → first n .ran ≡ r → (first n .ran ≡ Stopped stop → Stopper n stop) → Stopper (suc n) stop
+      go : (r : Ran) → firstThreads n .ran ≡ r → (firstThreads n .ran ≡ Stopped stop → Stopper n stop) → Stopper (suc n) stop
       go Done now lower =
-          let before : first n ≡ going (first n .window) = ap (λ r. record { ran = r; window = first n .window }) now in
-          let here = rw add-one at (one-thread-more limit pack kernel groups threads window n (first n .window) before) in
-          record { number = n; below = omega arith; left = first n .window; before = before; stopped = rw here at e }
+          let before : firstThreads n ≡ going (firstThreads n .window) = ap (λ r. record { ran = r; window = firstThreads n .window }) now in
+          let here = rw add-one at (one-thread-more limit pack kernel groups threads window n (firstThreads n .window) before) in
+          record { number = n; below = omega arith; left = firstThreads n .window; before = before; stopped = rw here at e }
       go (Stopped other) now lower =
           let same = stop-ends limit pack kernel groups threads window n (suc n) other (omega arith) now in
           let s = lower (rw same at e) in
@@ -104,8 +104,8 @@ module _ (limit : ℕ) (pack : List ℕ) (kernel : Kernel) (groups threads : ℕ
       rw (← left, threads-length limit pack window (groups * threads) kernel groups threads) small in
       subst (λ (a : ThreadStop). StoppedThread limit pack kernel groups threads window (stopNumber (a .why)) (siteOf (Stopped a))) (sym (told .told))
       (record {
-        group = div-lt-iff-lt-mul some .1 (s .below);
-        thread = mod-lt (s .number) some;
+        group-below = div-lt-iff-lt-mul some .1 (s .below);
+        thread-below = mod-lt (s .number) some;
         window-before = s .left;
         before = rw (div-add-mod' (s .number) threads) (s .before);
         steps = step .steps;
@@ -128,7 +128,7 @@ module _ (limit : ℕ) (pack : List ℕ) (kernel : Kernel) (groups threads : ℕ
 
     -- the stop that is told
     abbrev toldStop : ThreadStop
-    toldStop = record { why = s .why; place = site .place; group = site .group; thread = site .thread }
+    toldStop = stopAt (s .why) (site .place) (site .group) (site .thread)
 
     its-run : runOf limit pack kernel start (s .window-before) ≡ stoppedAs (s .why) (s .standing) (s .window-there)
     unfolding running stops
@@ -140,11 +140,11 @@ module _ (limit : ℕ) (pack : List ℕ) (kernel : Kernel) (groups threads : ℕ
     unfolding stops
     told-ran =
         let run = its-run in
-        let number = thread-number limit pack kernel groups threads (site .group) (site .thread) (s .window-before) (s .thread) in
+        let number = thread-number limit pack kernel groups threads (site .group) (site .thread) (s .window-before) (s .thread-below) in
         let shows = stopped-shown (site .group) (site .thread) (runOf limit pack kernel start (s .window-before)) (s .why) (rw run) in
         let told : threadOf limit pack kernel groups threads (site .group * threads + site .thread) (s .window-before) .ran ≡ Stopped toldStop =
         rw number (shows ∙ (rw (run, ← s .place))) in
-        let below = number-below (site .group) (site .thread) groups threads (s .group) (s .thread) in
+        let below = number-below (site .group) (site .thread) groups threads (s .group-below) (s .thread-below) in
         ap (λ d. d .ran) (stopped-by limit pack kernel groups threads window (groups * threads) _ (s .window-before) toldStop below (s .before) told) ∙ told
 
 -- an instruction accesses one address

@@ -19,7 +19,7 @@ use Rattle.kernel.specs.Registers.{startRegisters, scalarOf, withScalar, withVe
 use Rattle.kernel.specs.Thread.{started, written, writtenVector, movedTo, advanced}
 use Rattle.kernel.specs.Step.{stops, goesOn, endsThread, lands, branched, afterStore, applied, executed, stepOf}
 use Rattle.kernel.specs.Run.{ifRunning, stepMore, running, stepsOf, runOf}
-use Rattle.kernel.specs.Dispatch.{Dispatched, ranOf, shown, ifDone, threadOf, threadMore, threadsOf, dispatchOf}
+use Rattle.kernel.specs.Dispatch.{Dispatched, stopAt, ranOf, shown, ifDone, threadOf, threadMore, threadsOf, dispatchOf}
 use Rattle.kernel.specs.Site.{siteAt, siteOf}
 use Rattle.kernel.proofs.Examples as kernel
 use Rattle.kernel.specs.Examples.{afterWord, packOf}
@@ -58,7 +58,7 @@ vadd = (refl, refl)
 -- a dispatch that stops so and leaves a window of zeros
 abbrev stopped : Stop → ℕ → ℕ → ℕ → Dispatched
 stopped why place group thread =
-    record { ran = Stopped (record { why = why; place = place; group = group; thread = thread }); window = replicate 64 0 }
+    record { ran = Stopped (stopAt why place group thread); window = replicate 64 0 }
 
 -- a kernel of one word under the least limits
 least : (dispatchOf 1 (packOf 0xFFF00297) 0 1 1 (replicate 64 0) ≡ stopped OutOfSteps 4 0 0)

@@ -65,8 +65,8 @@ pub record ReachesOut (pack : List ℕ) (kernel : Kernel) (t : Thread) (window :
 -- the thread that stopped a dispatch, told by an outcome, an address, a place, a group and a thread
 pub record StoppedThread (limit : ℕ) (pack : List ℕ) (kernel : Kernel) (groups threads : ℕ) (window : List ℕ) (outcome : ℕ) (site : Site) : Type 0 where
   -- there is such a group, and such a thread in it
-  pub group : site .group < groups
-  pub thread : site .thread < threads
+  pub group-below : site .group < groups
+  pub thread-below : site .thread < threads
   -- no thread before it stopped
   pub window-before : List ℕ
   pub before : threadsOf (site .group * threads + site .thread) limit pack kernel groups threads window ≡ going window-before

@@ -34,7 +34,7 @@ use Rattle.kernel.specs.Registers.{scalarOf, withScalar, startRegisters}
 use Rattle.kernel.specs.Thread.{started, written, advanced, movedTo}
 use Rattle.kernel.specs.Step.{stops, goesOn, lands, branched, afterStore, applied, executed, stepOf}
 use Rattle.kernel.specs.Run.{running, stepsOf}
-use Rattle.kernel.specs.Dispatch.{Dispatched, ranOf, shown, dispatchOf}
+use Rattle.kernel.specs.Dispatch.{Dispatched, stopAt, ranOf, shown, dispatchOf}
 use Rattle.kernel.specs.Examples.{freshThread, afterWord, scalar, packOf}
 use Rattle.kernel.proofs.Runs.{no-step}
 use Rattle.kernel.proofs.Steps.{at-the-limit}
@@ -69,7 +69,7 @@ theKernel = record { start = 16; length = 4 }
 module _ (limit groups threads : ℕ) (window : List ℕ) where
   -- a dispatch whose first thread stopped at this place and left the window as it was
   abbrev stoppedFirst : Stop → ℕ → Dispatched
-  stoppedFirst why place = record { ran = StoppedFor (record { why = why; place = place; group = 0; thread = 0 }); window = window }
+  stoppedFirst why place = record { ran = StoppedFor (stopAt why place 0 0); window = window }
 
   -- a dispatch whose first thread is stopped by a step that finds the window as it was
   stopped : (w n : ℕ) (t : Thread) (why : Stop) → 1 ≤ groups → 1 ≤ threads → n ≤ limit
@@ -79,7 +79,7 @@ module _ (limit groups threads : ℕ) (window : List ℕ) where
   unfolding dispatchOf shown ranOf stops kernelOf kernelCount firstWord kernelWords wordAt
   stopped w n t why hg ht h e stop =
       let run = stopped-run limit (packOf w) theKernel (started 0 0 threads groups) window n t window why h e stop in
-      first-stops limit (packOf w) theKernel groups threads window (groups * threads) (record { why = why; place = t .place; group = 0; thread = 0 }) (mul-pos hg ht) (rw run) ∙ (rw run)
+      first-stops limit (packOf w) theKernel groups threads window (groups * threads) (stopAt why (t .place) 0 0) (mul-pos hg ht) (rw run) ∙ (rw run)
 
   -- FE502E0D (SW at -4 from s0): 13 at place 0, with the first address that is not inside, and nothing is stored
   pub p8 : 1 ≤ limit → 1 ≤ groups → 1 ≤ threads → ListN.length window < 2 ^ 32

@@ -19,7 +19,7 @@ use Rattle.pack.specs.Kernels.{kernelOf}
 use Rattle.kernel.specs.Thread.{started}
 use Rattle.kernel.specs.Step.{State}
 use Rattle.kernel.specs.Run.{stepsOf, runOf}
-use Rattle.kernel.specs.Dispatch.{Dispatched, ranOf, shown, ifDone, going, threadOf, threadMore, threadsOf, dispatchOf}
+use Rattle.kernel.specs.Dispatch.{Dispatched, stopAt, ranOf, shown, ifDone, going, threadOf, threadMore, threadsOf, dispatchOf}
 use Rattle.kernel.proofs.Dispatches.{no-thread, one-thread-more}
 use Rattle.kernel.proofs.StepLimit.{run-not-running, out-of-steps}
 
@@ -51,12 +51,12 @@ module _ (place group thread : ℕ) where
 -- what is told of the stop of a thread of a group: why, and the thread's place, group and number
 pub record StopOf (group thread : ℕ) (s : State) (stop : ThreadStop) : Type 0 where
   pub why : s .stepped .progress ≡ Stopped (stop .why)
-  pub told : stop ≡ record { why = stop .why; place = s .stepped .thread .place; group = group; thread = thread }
+  pub told : stop ≡ stopAt (stop .why) (s .stepped .thread .place) group thread
 
 module _ (group thread : ℕ) (s : State) where
   -- a thread that has stopped is shown so
   pub stopped-shown : (why : Stop) → s .stepped .progress ≡ Stopped why
-      → shown group thread s .ran ≡ StoppedFor (record { why = why; place = s .stepped .thread .place; group = group; thread = thread })
+      → shown group thread s .ran ≡ StoppedFor (stopAt why (s .stepped .thread .place) group thread)
   unfolding shown ranOf
   stopped-shown why e = rw e
 
@@ -93,8 +93,7 @@ module _ (limit : ℕ) (pack : List ℕ) (kernel : Kernel) (groups threads : ℕ
     )
 
     -- it is stopped with 14 exactly if it is still running after the limit's steps
-    pub thread-out-of-steps : (shown g j (runOfThread g j window) .ran
-        ≡ StoppedFor (record { why = OutOfSteps; place = runOfThread g j window .stepped .thread .place; group = g; thread = j }))
+    pub thread-out-of-steps : (shown g j (runOfThread g j window) .ran ≡ StoppedFor (stopAt OutOfSteps (runOfThread g j window .stepped .thread .place) g j))
         ↔ (stepsOf limit limit pack kernel (started g j threads groups) window .stepped .progress ≡ Running)
     thread-out-of-steps =
         let run = out-of-steps limit pack kernel (started g j threads groups) window (starts-fresh g j threads groups) in

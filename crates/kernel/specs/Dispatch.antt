@@ -4,8 +4,10 @@ use mathlib.Core.Path.{_≡_}
 use mathlib.Core.List.{List}
 use Rattle.memory.specs.After.{after}
 use Rattle.pack.specs.declared.kernels.Kernel.{Kernel}
+use Rattle.kernel.specs.declared.step.Stop.{Stop}
 use Rattle.kernel.specs.declared.step.Progress.{Progress}
 use Rattle.kernel.specs.declared.step.Progress.the-variants.{Running, Ended, Stopped}
+use Rattle.kernel.specs.declared.dispatch.ThreadStop.{ThreadStop}
 use Rattle.kernel.specs.declared.dispatch.Ran.{Ran}
 use Rattle.kernel.specs.declared.dispatch.Ran.the-variants.{Done, Stopped as StoppedFor}
 use Rattle.pack.specs.Kernels.{kernelOf}
@@ -23,11 +25,15 @@ pub record ShowsRan (r : Ran) (left : List ℕ) (d : Dispatched) : Type 0 where
   pub answer : r ≡ d .ran
   pub window : left ≡ d .window
 
--- what a thread's progress means for its dispatch: a stop is told with the thread's place, its group and its number there
+-- a stop, with the thread's place, its group and its number there
+abbrev pub stopAt : Stop → ℕ → ℕ → ℕ → ThreadStop
+stopAt why place group thread = record { why = why; place = place; group = group; thread = thread }
+
+-- what a thread's progress means for its dispatch
 unfoldable pub ranOf : Progress → ℕ → ℕ → ℕ → Ran
 ranOf Running place group thread = Done
 ranOf Ended place group thread = Done
-ranOf (Stopped why) place group thread = StoppedFor (record { why = why; place = place; group = group; thread = thread })
+ranOf (Stopped why) place group thread = StoppedFor (stopAt why place group thread)
 
 -- what a dispatch sees of the state of a thread of a group
 unfoldable pub shown : ℕ → ℕ → State → Dispatched

@@ -5,8 +5,8 @@ use lib.Dec.{leb, ltb}
 use Rattle.memory.specs.declared.address.Reach.{Reach}
 use Rattle.memory.specs.declared.address.Reach.the-variants.{Inside, Outside}
 
--- of an access not wholly inside, the first address that is not inside: its own, or the window's length if it begins inside; an
--- address has 32 bits, and the length of a device's window has fewer
+-- of an access not wholly inside, the first address that is not inside: its own, or the window's length if it begins inside (modulo
+-- 2^32, as every address; a device's window is shorter)
 unfoldable pub firstOutside : ℕ → ℕ → ℕ
 firstOutside length address = cond (ltb address length) (length % 2 ^ 32) address
 
