@@ -22,8 +22,8 @@ use Rattle.kernel.specs.Run.{ifRunning, stepMore, running, stepsOf, runOf}
 use Rattle.kernel.specs.Dispatch.{Dispatched, stopAt, ranOf, shown, ifDone, threadOf, threadMore, threadsOf, dispatchOf}
 use Rattle.kernel.specs.Site.{siteAt, siteOf}
 use Rattle.kernel.proofs.Examples as kernel
-use Rattle.kernel.specs.Examples.{afterWord, packOf}
-use Rattle.demands.specs.Table.{framedUnder, colored, StopOn0, oneThread, bytesOfWords, packOfWords, holding, vector, Table, LeastLimit, WhereStopped, RoundTheWrap, ReadyNoLonger}
+use Rattle.kernel.specs.Examples.{afterWord, bytesOfWords, packOfWords, packOf}
+use Rattle.demands.specs.Table.{framedUnder, colored, StopOn0, oneThread, holding, vector, Table, LeastLimit, WhereStopped, RoundTheWrap, ReadyNoLonger}
 use Rattle.state.specs.Device.{defaultLimit, freshDevice, ringOf, slotOf, withRing, withSlots, withMarker, withCounts}
 use Rattle.state.specs.PlusOne.{plusOneAt}
 use Rattle.state.specs.Counts.{counted, total, balanced}
@@ -64,7 +64,7 @@ stopped why place group thread =
 least : (dispatchOf 1 (packOf 0xFFF00297) 0 1 1 (replicate 64 0) ≡ stopped OutOfSteps 4 0 0)
     × (dispatchOf 2 (packOf 0xFFF00297) 0 1 1 (replicate 64 0) ≡ stopped OffTheKernel 4 0 0)
     × (dispatchOf 1 (packOf 0x0000700F) 0 1 1 (replicate 64 0) ≡ record { ran = Done; window = replicate 64 0 })
-unfolding dispatchOf threadsOf threadMore ifDone threadOf shown ranOf runOf stepsOf stepMore ifRunning running stepOf stops endsThread started startRegisters executed decoded opOf immediateRow systemRow effectOf aluOf applied goesOn advanced movedTo written withScalar scalarOf kernelOf kernelCount firstWord kernelWords after halfAt wordAt
+unfolding dispatchOf threadsOf threadMore ifDone threadOf shown ranOf runOf stepsOf stepMore ifRunning running stepOf stops endsThread started startRegisters executed decoded opOf immediateRow systemRow effectOf aluOf applied goesOn advanced movedTo written withScalar scalarOf kernelOf kernelCount firstWord kernelWords after halfAt wordAt bytesOfWords
 least = (refl, refl, refl)
 
 -- dispatches that stop elsewhere than at the first word, and a store across the window's end

@@ -4,7 +4,6 @@ use mathlib.Core.Path.{_≡_}
 use mathlib.Core.Bool.{Bool, true, false}
 use mathlib.Core.List.{List, [], _∷_, _++_}
 use lib.ListN.{length, replicate}
-use Rattle.words.specs.Bytes.{byteOf}
 use Rattle.memory.specs.declared.quad.Quad.{Quad}
 use Rattle.memory.specs.Place.{withWord}
 use Rattle.instruction.specs.declared.list.Op.the-variants.{Unary}
@@ -16,7 +15,7 @@ use Rattle.kernel.specs.Thread.{writtenVector}
 use Rattle.kernel.specs.declared.site.Site.{Site}
 use Rattle.kernel.specs.Dispatch.{Dispatched, dispatchOf}
 use Rattle.kernel.specs.Site.{siteAt, noSite, siteOf}
-use Rattle.kernel.specs.Examples.{freshThread, afterWord, scalar, packOf}
+use Rattle.kernel.specs.Examples.{freshThread, afterWord, scalar, wordBytes, packOfWords, packOf}
 use Rattle.command.specs.declared.frame.Frame.the-variants.{Held}
 use Rattle.command.specs.Outcome.{outcomeNumber}
 use Rattle.work.specs.Work.{ranOutcome}
@@ -30,10 +29,7 @@ use Rattle.device.specs.Answer.{answerNumber, noValues, valuesOf}
 use Rattle.device.specs.Turn.{Call, callOf, TurnEnd, turnOf}
 use Rattle.demands.specs.Calls.{ServesRing}
 
--- a word's bytes, and a command's 16 bytes
-abbrev pub wordBytes : ℕ → List ℕ
-wordBytes w = byteOf 0 w ∷ byteOf 1 w ∷ byteOf 2 w ∷ byteOf 3 w ∷ []
-
+-- a command's 16 bytes
 abbrev pub header : ℕ → ℕ → ℕ → ℕ → ℕ → ℕ → ℕ → List ℕ
 header opcode flags rdst len arg0 arg1 arg2 = opcode ∷ flags ∷ rdst ∷ len ∷ (wordBytes arg0 ++ (wordBytes arg1 ++ wordBytes arg2))
 
@@ -92,15 +88,6 @@ dispatch groups threads pack = callOf (replicate 64 0) (header 0x20 0 0 0 groups
 -- that of one thread in a kernel of one word
 abbrev pub oneThread : ℕ → Call
 oneThread w = dispatch 1 1 (packOf w)
-
--- the bytes of words one after another
-unfoldable pub bytesOfWords : List ℕ → List ℕ
-bytesOfWords [] = []
-bytesOfWords (w ∷ words) = wordBytes w ++ bytesOfWords words
-
--- the pack of one kernel of these words
-abbrev pub packOfWords : List ℕ → List ℕ
-packOfWords words = bytesOfWords (1 ∷ 0 ∷ length words ∷ length words ∷ words)
 
 -- a thread with x in each word of v1, and y in each of v2
 abbrev pub holding : ℕ → ℕ → Thread

@@ -35,7 +35,7 @@ use Rattle.kernel.specs.Thread.{started, written, advanced, movedTo}
 use Rattle.kernel.specs.Step.{stops, goesOn, lands, branched, afterStore, applied, executed, stepOf}
 use Rattle.kernel.specs.Run.{running, stepsOf}
 use Rattle.kernel.specs.Dispatch.{Dispatched, stopAt, ranOf, shown, dispatchOf}
-use Rattle.kernel.specs.Examples.{freshThread, afterWord, scalar, packOf}
+use Rattle.kernel.specs.Examples.{freshThread, afterWord, scalar, bytesOfWords, packOf}
 use Rattle.kernel.proofs.Runs.{no-step}
 use Rattle.kernel.proofs.Steps.{at-the-limit}
 use Rattle.kernel.proofs.StepByStep.{more-running, one-more}
@@ -76,7 +76,7 @@ module _ (limit groups threads : ℕ) (window : List ℕ) where
       → stepsOf n limit (packOf w) theKernel (started 0 0 threads groups) window ≡ running t window
       → stepOf limit (packOf w) theKernel t window .stepped .progress ≡ Stopped why
       → dispatchOf limit (packOf w) 0 groups threads window ≡ stoppedFirst why (t .place)
-  unfolding dispatchOf shown ranOf stops kernelOf kernelCount firstWord kernelWords wordAt
+  unfolding dispatchOf shown ranOf stops kernelOf kernelCount firstWord kernelWords wordAt bytesOfWords
   stopped w n t why hg ht h e stop =
       let run = stopped-run limit (packOf w) theKernel (started 0 0 threads groups) window n t window why h e stop in
       first-stops limit (packOf w) theKernel groups threads window (groups * threads) (stopAt why (t .place) 0 0) (mul-pos hg ht) (rw run) ∙ (rw run)
@@ -84,7 +84,7 @@ module _ (limit groups threads : ℕ) (window : List ℕ) where
   -- FE502E0D (SW at -4 from s0): 13 at place 0, with the first address that is not inside, and nothing is stored
   pub p8 : 1 ≤ limit → 1 ≤ groups → 1 ≤ threads → ListN.length window < 2 ^ 32
       → dispatchOf limit (packOf 0xFE502E0D) 0 groups threads window ≡ stoppedFirst (OutsideTheWindow (firstOutside (ListN.length window) 4294967292)) 0
-  unfolding started stepOf executed decoded opOf storeRow effectOf applied afterStore scalarOf ifInside stops wordAt
+  unfolding started stepOf executed decoded opOf storeRow effectOf applied afterStore scalarOf ifInside stops wordAt bytesOfWords
   p8 hl hg ht small =
       stopped 0xFE502E0D 0 (started 0 0 threads groups) (OutsideTheWindow (firstOutside (ListN.length window) 4294967292)) hg ht (omega arith) (no-step _ _ _ _ _)
       (rw (lt-leb limit 0 hl, reach-outside (ListN.length window) 4294967292 4 (omega arith)))
@@ -94,7 +94,7 @@ module _ (limit groups threads : ℕ) (window : List ℕ) where
   spun n = record { registers = startRegisters 0 0 threads groups; place = 0; steps = n }
 
   spin : (n : ℕ) → n < limit → stepOf limit (packOf 0x0000000E) theKernel (spun n) window ≡ running (spun (suc n)) window
-  unfolding stepOf executed decoded opOf branchRow effectOf branchEffect holdsOf applied branched lands movedTo scalarOf wordAt running
+  unfolding stepOf executed decoded opOf branchRow effectOf branchEffect holdsOf applied branched lands movedTo scalarOf wordAt running bytesOfWords
   spin n h = rw (lt-leb limit n h, add-one)
 
   spins : (n : ℕ) → n ≤ limit → stepsOf n limit (packOf 0x0000000E) theKernel (spun 0) window ≡ running (spun n) window

@@ -1,6 +1,7 @@
 -- What the examples worked by hand, P4 to P9, speak of.
 use Prim.Native.Nat.{ℕ}
-use mathlib.Core.List.{List, [], _∷_}
+use mathlib.Core.List.{List, [], _∷_, _++_}
+use lib.ListN.{length}
 use Rattle.words.specs.Bytes.{byteOf}
 use Rattle.instruction.specs.Decode.{decoded}
 use Rattle.kernel.specs.declared.thread.Thread.{Thread}
@@ -20,8 +21,18 @@ afterWord w t = executed 4 (decoded w) t [] .stepped .thread
 abbrev pub scalar : ℕ → Thread → ℕ
 scalar n t = scalarOf (t .registers) n
 
--- the pack of one kernel of one word
+-- a word's bytes, and those of words one after another
+abbrev pub wordBytes : ℕ → List ℕ
+wordBytes w = byteOf 0 w ∷ byteOf 1 w ∷ byteOf 2 w ∷ byteOf 3 w ∷ []
+
+unfoldable pub bytesOfWords : List ℕ → List ℕ
+bytesOfWords [] = []
+bytesOfWords (w ∷ words) = wordBytes w ++ bytesOfWords words
+
+-- the pack of one kernel of these words
+abbrev pub packOfWords : List ℕ → List ℕ
+packOfWords words = bytesOfWords (1 ∷ 0 ∷ length words ∷ length words ∷ words)
+
+-- and of one word
 abbrev pub packOf : ℕ → List ℕ
-packOf w =
-    1 ∷ 0 ∷ 0 ∷ 0 ∷ 0 ∷ 0 ∷ 0 ∷ 0 ∷ 1 ∷ 0 ∷ 0 ∷ 0 ∷ 1 ∷ 0 ∷ 0 ∷ 0
-    ∷ byteOf 0 w ∷ byteOf 1 w ∷ byteOf 2 w ∷ byteOf 3 w ∷ []
+packOf w = packOfWords (w ∷ [])
