@@ -505,7 +505,7 @@ static inline int fv_fill_rect(struct fv_ring *ring, struct fv_sync sync, uint32
     return fv_append_plain(ring, sync, FV_FILL_RECT, 0, dst, width | height << 16, color);
 }
 
-/* Row by row from the top, each row from the left; the stride is used for both sides. */
+/* The stride is used for both sides. They may overlap: each written pixel is what the source's pixel was before. */
 static inline int fv_blit(struct fv_ring *ring, struct fv_sync sync, uint32_t dst, uint32_t src, uint32_t width,
                           uint32_t height)
 {
@@ -525,7 +525,7 @@ static inline int fv_barrier(struct fv_ring *ring, struct fv_sync sync)
     return fv_append_plain(ring, sync, FV_BARRIER, 0, 0, 0, 0);
 }
 
-/* In rising order; each word is read when its turn comes. */
+/* The two sides may overlap: each written word is what the source's word was before. */
 static inline int fv_copy_buffer(struct fv_ring *ring, struct fv_sync sync, uint32_t dst, uint32_t src, size_t len)
 {
     return fv_append_plain(ring, sync, FV_COPY_BUFFER, len, dst, src, 0);

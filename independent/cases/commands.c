@@ -14,8 +14,10 @@ static uint32_t address_for(struct scene *s, uint32_t length, uint64_t bytes)
 {
     uint32_t last = length - (uint32_t)bytes; /* wraps where they don't fit */
 
-    if (s->full != ANY && mille(s->c, 200)) /* which of 5 and 6 is told? */
-        return 4 * below(s->c, length / 4 + 1) + 1 + below(s->c, 3);
+    if (s->full != ANY && mille(s->c, 250)) { /* which of 5 and 6 is told? */
+        uint32_t word = 4 * below(s->c, length / 4 + 1);
+        return word + 1 + below(s->c, 3);
+    }
     if (odd(s)) {
         switch (below(s->c, 10)) {
         case 0:
@@ -41,7 +43,8 @@ static uint32_t address_for(struct scene *s, uint32_t length, uint64_t bytes)
     return 4 * below(s->c, (bytes > length ? length : last) / 4 + 1);
 }
 
-static uint32_t len_for(struct scene *s, uint32_t length)
+/* A copy's words are rarely all there is room for, or one. */
+static uint32_t len_for(struct scene *s, uint32_t length, int copy)
 {
     uint32_t words = lesser(length / WORD, IND_LEN_MOST);
 
@@ -61,22 +64,30 @@ static uint32_t len_for(struct scene *s, uint32_t length)
             return below(s->c, 20);
         }
     }
+    if (copy && words > 3 && mille(s->c, 900))
+        return 2 + below(s->c, lesser(words / 2, 8));
     return lesser(words, 1 + below(s->c, 10));
 }
 
-/* A width and a height that fit, or miss by one. */
-static struct ind_size size_for(struct scene *s, const struct ind_ring *ring)
+/* A width and a height that fit, or miss by one. A BLIT's are rarely all there
+ * is room for: its rectangle is to move. */
+static struct ind_size size_for(struct scene *s, const struct ind_ring *ring,
+                                int blit)
 {
     static const uint32_t high[4] = { 0, 0, 1, IND_EXTENT_MOST };
     uint32_t stride = ring->frame.held != 0 ? ring->frame.stride : 16;
     struct ind_size size = { 1 + below(s->c, lesser(stride / 4, 6)), 1 };
 
+    if (blit && mille(s->c, 300))
+        size.width = lesser(stride / 4, 6);
     if (odd(s))
         size.width = below(s->c, 2) == 0 ? high[below(s->c, 4)]
                                          : stride / 4 + below(s->c, 2);
     uint32_t used = lesser(4 * size.width, ring->window_length);
     uint32_t rows = (ring->window_length - used) / stride + 1;
     size.height = 1 + below(s->c, lesser(rows, 6));
+    if (blit && rows > 2 && mille(s->c, 800))
+        size.height = 2 + below(s->c, lesser(rows / 2, 5));
     if (odd(s))
         size.height = below(s->c, 2) == 0 ? high[below(s->c, 4)]
                                           : rows + below(s->c, 2);
@@ -105,6 +116,74 @@ static uint32_t side_for(struct scene *s, uint32_t most)
     return 1 + below(s->c, most);
 }
 
+/* ---- the two sides of a copy ---- */
+
+/* Bytes from one side of a COPY_BUFFER to the other: they are one, overlap or
+ * touch. */
+static uint32_t buffer_apart(struct scene *s, uint32_t len)
+{
+    switch (below(s->c, 12)) {
+    case 0:
+        return 0;
+    case 1:
+    case 2:
+        return WORD;
+    case 3:
+    case 4: /* they touch, or share one word */
+        return WORD * (len - lesser(len, below(s->c, 2)));
+    default:
+        return len < 2 ? 0 : WORD * (1 + below(s->c, len - 1));
+    }
+}
+
+/* The same of a BLIT: by part of a row, by rows, by both, by half a stride more
+ * than rows, or by any number of words. */
+static uint32_t rectangle_apart(struct scene *s, struct ind_size size,
+                                uint32_t stride)
+{
+    uint32_t part = size.width < 2 ? 0 : 1 + below(s->c, size.width - 1);
+    uint32_t rows = size.height < 2 ? 0 : 1 + below(s->c, size.height - 1);
+    uint32_t words = stride / WORD;
+
+    switch (below(s->c, 12)) {
+    case 0:
+        return 0;
+    case 1:
+    case 2:
+        return WORD * part;
+    case 3:
+        return stride * rows;
+    case 4: /* rows between or across the other side's */
+        return stride * (rows - (rows != 0)) + WORD * (words / 2);
+    case 5:
+        return WORD * below(s->c, words * lesser(size.height, 16) + 1);
+    case 6:
+    case 7:
+        return stride * rows + WORD * part;
+    default:
+        return rows == 0 ? WORD * part : stride * rows - WORD * part;
+    }
+}
+
+/* Close to each other, as far as the window has room for that, or anywhere. */
+static void lay_sides(struct scene *s, uint32_t length, uint64_t bytes,
+                      uint32_t apart, struct ind_command *command)
+{
+    uint32_t share = s->overlap == ANY ? 700 : (uint32_t)s->overlap;
+
+    if (odd(s) || !mille(s->c, share)) {
+        command->arg0 = address_for(s, length, bytes);
+        command->arg1 = address_for(s, length, bytes);
+        return;
+    }
+    if (bytes <= length)
+        apart = lesser(apart, length - (uint32_t)bytes);
+    uint32_t lower = address_for(s, length, bytes + apart);
+    int higher = mille(s->c, 500);
+    command->arg0 = lower + (higher ? apart : 0);
+    command->arg1 = lower + (higher ? 0 : apart);
+}
+
 /* ---- the work of each opcode ---- */
 
 static void ask_transfer(struct scene *s, const struct ind_ring *ring,
@@ -113,14 +192,13 @@ static void ask_transfer(struct scene *s, const struct ind_ring *ring,
     uint32_t length = ring->window_length;
     uint64_t bytes;
 
-    command->len = len_for(s, length);
+    command->len = len_for(s, length, command->opcode == COPY_BUFFER);
     bytes = (uint64_t)WORD * command->len;
-    command->arg0 = address_for(s, length, bytes);
     if (command->opcode == COPY_BUFFER) {
-        command->arg1 = address_for(s, length, bytes);
-        if (mille(s->c, 300)) /* the two sides overlap */
-            command->arg1 = command->arg0 + 4 * (uint32_t)between(s->c, -3, 3);
+        uint32_t apart = buffer_apart(s, command->len);
+        lay_sides(s, length, bytes, apart, command);
     } else {
+        command->arg0 = address_for(s, length, bytes);
         command->arg1 = mille(s->c, 100) ? any_word(s->c) : 0;
     }
     command->arg2 = mille(s->c, 100) ? any_word(s->c) : 0;
@@ -131,25 +209,22 @@ static void ask_rectangle(struct scene *s, const struct ind_ring *ring,
 {
     uint32_t length = ring->window_length;
     uint32_t stride = ring->frame.held != 0 ? ring->frame.stride : 16;
-    struct ind_size size = size_for(s, ring);
+    struct ind_size size = size_for(s, ring, command->opcode == BLIT);
     uint32_t packed = size.width | size.height << 16;
     uint64_t bytes = size.height == 0 ? 0
         : (uint64_t)(size.height - 1) * stride + 4 * size.width;
 
-    command->arg0 = address_for(s, length, bytes);
     if (command->opcode == FILL_RECT) {
+        command->arg0 = address_for(s, length, bytes);
         command->arg1 = packed;
         command->arg2 = edge_word(s->c);
         return;
     }
-    command->arg1 = address_for(s, length, bytes);
-    if (mille(s->c, 300)) {
-        int32_t words = between(s->c, -3, 3);
-        int32_t rows = between(s->c, -1, 1);
-        command->arg1 = command->arg0 + 4 * (uint32_t)words
-            + stride * (uint32_t)rows;
-    }
+    uint32_t apart = rectangle_apart(s, size, stride);
+    lay_sides(s, length, bytes, apart, command);
     command->arg2 = packed;
+    if (ring->frame.held == 0 && mille(s->c, 200)) /* which of 6 and 7? */
+        command->arg0 += 1 + below(s->c, 3);
 }
 
 /* The kernel made for this ring, with many threads only if it is short. */

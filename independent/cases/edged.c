@@ -156,13 +156,14 @@ static void draw_far(struct scene *s)
 
 enum theme {
     THEME_STEPS, THEME_STOPS, THEME_LATE, THEME_SLOTS, THEME_LEN,
-    THEME_TRANSFERS, THEME_FRAMES, THEME_RECTANGLES, THEME_WAITS, THEME_NONE
+    THEME_TRANSFERS, THEME_FRAMES, THEME_RECTANGLES, THEME_COPIES, THEME_WAITS,
+    THEME_NONE
 };
 
 static enum theme any_theme(struct chance *c)
 {
     static const uint8_t shares[THEME_NONE] = {
-        13, 7, 36, 13, 3, 5, 6, 10, 7
+        11, 7, 35, 12, 3, 3, 5, 7, 10, 7
     };
     uint32_t x = below(c, 100);
     int theme = 0;
@@ -188,6 +189,27 @@ static void wish_kernel(struct scene *s, enum theme theme)
     s->odd = 100;
 }
 
+/* The most words, which fit or just don't, or none; gives the memory's length,
+ * or 0 for any. */
+static uint32_t wish_len(struct scene *s)
+{
+    s->opcode = transfers[below(s->c, 3)];
+    s->len = mille(s->c, 500) ? IND_LEN_MOST : 0;
+    return s->len != 0 ? WORD * (IND_LEN_MOST - 1 + below(s->c, 15)) : 0;
+}
+
+/* A copy whose sides overlap, now and then of many words; gives the same. */
+static uint32_t wish_copy(struct scene *s)
+{
+    s->opcode = mille(s->c, 700) ? BLIT : COPY_BUFFER;
+    s->overlap = 950;
+    s->odd = 30;
+    if (s->opcode == BLIT || !mille(s->c, 150))
+        return 0;
+    s->len = 65 + (int)below(s->c, 40);
+    return WORD * ((uint32_t)s->len + 8 + below(s->c, 30));
+}
+
 /* Sets wishes by a theme; gives the memory's length, or 0 for any. */
 static uint32_t wish(struct scene *s)
 {
@@ -204,10 +226,8 @@ static uint32_t wish(struct scene *s)
         s->full = 900;
         s->odd = mille(s->c, 300) ? 100 : 600;
         return 0;
-    case THEME_LEN: /* the most words, which fit or just don't, or none */
-        s->opcode = transfers[below(s->c, 3)];
-        s->len = mille(s->c, 500) ? IND_LEN_MOST : 0;
-        return s->len != 0 ? WORD * (IND_LEN_MOST - 1 + below(s->c, 15)) : 0;
+    case THEME_LEN:
+        return wish_len(s);
     case THEME_TRANSFERS:
         s->opcode = transfers[below(s->c, 3)];
         return 0;
@@ -219,6 +239,8 @@ static uint32_t wish(struct scene *s)
         s->opcode = mille(s->c, 500) ? FILL_RECT : BLIT;
         s->odd = 250;
         return 0;
+    case THEME_COPIES:
+        return wish_copy(s);
     case THEME_WAITS: /* for targets at the edges of either edition */
         s->opcode = mille(s->c, 700) ? BARRIER : ANY;
         s->waits = 850;

@@ -9,10 +9,10 @@ uint32_t any_edition(struct chance *c)
 
 uint32_t odd_edition(struct chance *c)
 {
-    static const uint32_t words[8] = {
-        0, 0, 3, 0xFFFFFFFF, 0xFFFFFFFF, 0x02000000, 0x00000102, 0x00010002
+    static const uint32_t words[9] = {
+        0, 0, 3, 3, 0xFFFFFFFF, 0xFFFFFFFF, 0x02000000, 0x00000102, 0x00010002
     };
-    uint32_t word = mille(c, 850) ? words[below(c, 8)] : edge_word(c);
+    uint32_t word = mille(c, 850) ? words[below(c, 9)] : edge_word(c);
 
     return word == IND_EDITION_1 || word == IND_EDITION_2 ? 0 : word;
 }

@@ -41,10 +41,8 @@ edits = [
     ("faults", "threads not asked", "!side_fits(command->arg0) || !side_fits(command->arg1)", "!side_fits(command->arg0) || command->arg1 == 0 || command->arg1 > 70"),
     ("faults", "width and height exchanged", "{packed & 0xFFFF, packed >> 16}", "{packed >> 16, packed & 0xFFFF}"),
     ("faults", "BLIT's size in arg1", "command->opcode == BLIT ? command->arg2 : command->arg1", "command->arg1"),
-    ("work", "copies as if apart", "    for (uint32_t i = 0; i < words; i++)\n        ind_store(window, dst + WORD * i, WORD,\n                  ind_load(window, src + WORD * i, WORD));", "    uint32_t held[16384];\n    for (uint32_t i = 0; i < words; i++)\n        held[i] = ind_load(window, src + WORD * i, WORD);\n    for (uint32_t i = 0; i < words; i++)\n        ind_store(window, dst + WORD * i, WORD, held[i]);"),
-    ("work", "copies from the end", "    for (uint32_t i = 0; i < words; i++)\n        ind_store(window, dst + WORD * i, WORD,", "    for (uint32_t i = words; i-- > 0;)\n        ind_store(window, dst + WORD * i, WORD,"),
-    ("work", "BLIT from the bottom", "for (uint32_t y = 0; y < size.height; y++) {\n        uint32_t dst", "for (uint32_t z = 0; z < size.height; z++) {\n        uint32_t y = size.height - 1 - z;\n        uint32_t dst"),
-    ("work", "BLIT's source without stride", "command->arg1 + y * stride, size.width", "command->arg1 + y * WORD * size.width, size.width"),
+    ("work", "BLIT's source without stride", "ind_load(window, command->arg1 + at, WORD)", "ind_load(window, command->arg1 + (higher ? words - 1 - i : i) * WORD, WORD)"),
+    ("work", "BLIT's destination without stride", "ind_store(window, command->arg0 + at, WORD,", "ind_store(window, command->arg0 + (higher ? words - 1 - i : i) * WORD, WORD,"),
     ("work", "FILL without its last column", "x < size.width; x++", "x + 1 < size.width; x++"),
     ("work", "rectangles from the frame's base", "uint32_t dst = command->arg0 + y * stride;", "uint32_t dst = command->arg0 + y * stride + (command->opcode == FILL_RECT && size.width < 2 ? 4 : 0);"),
     ("work", "READ_MEM behind what is there", "ind_put(pipe + WORD * i, WORD,", "ind_put(pipe + WORD * i + (command->len < 250 ? WORD : 0), WORD,"),
@@ -356,3 +354,102 @@ edits = [
 edits += [("device", "outcome %d tells a stop's %s" % (outcome, word), "    report->irq = (command->flags & FLAG_IRQ) != 0\n",
            "    if (outcome == %d)\n        report->stop.%s = 1;\n    report->irq = (command->flags & FLAG_IRQ) != 0\n"
            % (outcome, word)) for outcome in range(11) for word in ("address", "place", "group", "thread")]
+
+# Errors of a copy. `order` tells which word goes as number i, `higher` what that is chosen by, `loop` goes through them.
+order, higher = "higher ? words - 1 - i : i", "int higher = command->arg0 > command->arg1;"
+words, place = "uint32_t words = size.width * size.height;", "word_place(size, stride, higher ? words - 1 - i : i)"
+loop = "    for (uint32_t i = 0; i < words; i++) {\n        uint32_t at"
+body = "\n        ind_store(window, command->arg0 + at, WORD,\n                  ind_load(window, command->arg1 + at, WORD));"
+blit, buffer = "command->opcode == BLIT", "command->opcode == COPY_BUFFER"
+apart, span = "(command->arg0 - command->arg1)", "(stride * (size.height - 1) + WORD * size.width)"
+opcodes = "    switch (command->opcode) {"
+row, column = "(command->arg0 / stride > command->arg1 / stride)", "(command->arg0 % stride > command->arg1 % stride)"
+
+
+def by(rows, columns):
+    """The order in which rows fall if the one holds, and the words of each if the other does."""
+    return ("(%s ? size.height - 1 - i / size.width : i / size.width) * size.width"
+            " + (%s ? size.width - 1 - i %% size.width : i %% size.width)" % (rows, columns))
+
+
+def held(number, end):
+    """The copy with so many words at a time read before they are written, the next from `end` on."""
+    return ("    for (uint32_t i = 0, n; i < words; i += n) {\n        static uint32_t held[%s];\n        n = %s;\n"
+            "        for (uint32_t k = 0; k < n; k++)\n"
+            "            held[k] = ind_load(window, command->arg1 + word_place(size, stride, i + k), WORD);\n"
+            "        for (uint32_t k = 0; k < n; k++)\n"
+            "            ind_store(window, command->arg0 + word_place(size, stride, i + k), WORD, held[k]);\n    }\n"
+            "    for (uint32_t i = 0; i < 0; i++) {\n        uint32_t at" % (number, end))
+
+
+edits += [("work", label, order, new) for label, new in [
+    ("copies from the first word", "i"),
+    ("copies from the last word", "words - 1 - i"),
+    ("BLIT from the first word", "higher && !(%s) ? words - 1 - i : i" % blit),
+    ("COPY_BUFFER from the first word", "higher && !(%s) ? words - 1 - i : i" % buffer),
+    ("BLIT from the last word", "higher || %s ? words - 1 - i : i" % blit),
+    ("COPY_BUFFER from the last word", "higher || %s ? words - 1 - i : i" % buffer),
+    ("a copy falls one word too high", "higher ? words - i : i"),
+    ("rows fall, each row rises, where words move higher", by("higher", "0")),
+    ("rows rise, each row falls, where words move higher", by("0", "higher")),
+    ("rows fall, each row as it has to", by("1", "higher")),
+    ("each row falls, rows as they have to", by("higher", "1")),
+    ("rows fall, each row rises", by("1", "0")),
+    ("rows rise, each row falls", by("0", "1")),
+    ("rows as they have to, each row the other way", by("higher", "!higher")),
+    ("each row as it has to, rows the other way", by("!higher", "higher")),
+    ("rows by the rows, words by the columns", "%s ? %s : %s" % (blit, by(row, column), order)),
+    ("rows by the rows, words by the addresses", "%s ? %s : %s" % (blit, by(row, "higher"), order)),
+    ("rows by the addresses, words by the columns", "%s ? %s : %s" % (blit, by("higher", column), order)),
+    ("column by column where words move higher",
+     "higher ? (size.height - 1 - i % size.height) * size.width + size.width - 1 - i / size.height : i"),
+    ("column by column where words move lower", "higher ? words - 1 - i : i % size.height * size.width + i / size.height"),
+]]
+edits += [("work", label, higher, "int higher = %s;" % new) for label, new in [
+    ("the order by the wrong comparison", "command->arg0 < command->arg1"),
+    ("the order by the rows alone", "%s ? %s : command->arg0 > command->arg1" % (blit, row)),
+    ("the order by the columns alone", "%s ? %s : command->arg0 > command->arg1" % (blit, column)),
+    ("falls only where a row meets itself", "command->arg0 > command->arg1 && %s < WORD * size.width" % apart),
+    ("falls only within a stride", "command->arg0 > command->arg1 && %s < stride" % apart),
+    ("BLIT falls only from a stride on", "command->arg0 > command->arg1 && (%s || %s >= stride)" % (buffer, apart)),
+    ("BLIT falls only by whole rows", "command->arg0 > command->arg1 && (%s || %s %% stride == 0)" % (buffer, apart)),
+    ("the overlap without the rows' gaps", "command->arg0 > command->arg1 && %s < WORD * size.width * size.height" % apart),
+    ("a COPY_BUFFER's overlap of one word is none",
+     "command->arg0 > command->arg1 && (%s || %s < %s - WORD)" % (blit, apart, span)),
+    ("a BLIT's overlap of one word is none",
+     "command->arg0 > command->arg1 && (%s || %s < %s - WORD)" % (buffer, apart, span)),
+    ("BLIT smears where its rows are as long as the stride",
+     "command->arg0 > command->arg1 && (%s || WORD * size.width < stride)" % buffer),
+    ("smears with a fence", "command->arg0 > command->arg1 && (command->flags & FLAG_EMIT) == 0"),
+]]
+edits += [("work", label, loop, new) for label, new in [
+    ("the word that goes first is left out where words move higher", loop.replace("i = 0", "i = higher")),
+    ("the word that goes last is left out where words move higher", loop.replace("i < words", "i + higher < words")),
+    ("the word that goes first is left out where words move lower", loop.replace("i = 0", "i = !higher")),
+    ("the word that goes last is left out where words move lower", loop.replace("i < words", "i + !higher < words")),
+    ("the row that goes first is left out where words move higher",
+     loop.replace("i = 0", "i = higher && %s ? size.width : 0" % blit)),
+    ("the row that goes last is left out where words move higher",
+     loop.replace("i < words", "i + (higher && %s ? size.width : 0) < words" % blit)),
+    ("the row that goes last is left out where words move lower",
+     loop.replace("i < words", "i + (!higher && %s ? size.width : 0) < words" % blit)),
+    ("nothing where the sides overlap",
+     "    if (words != 0 && (higher ? %s : 0 - %s) < %s)\n        words = 0;\n" % (apart, apart, span) + loop),
+    ("64 words at a time", held("64", "words - i < 64 ? words - i : 64")),
+    ("a row at a time", held("16384", "size.width")),
+]]
+edits += [
+    ("work", "what lies between the rows goes along", words,
+     "uint32_t words = size.width * size.height == 0 ? 0 : %s / WORD;" % span, place, "WORD * (%s)" % order),
+    ("work", "sides exchanged", body, body.replace("arg0", "argn").replace("arg1", "arg0").replace("argn", "arg1")),
+    ("work", "smears in edition 1", '#include "parts.h"\n', '#include "parts.h"\n\nstatic int second;\n', higher,
+     higher.replace(";", " && second;"), opcodes, "    second = device->edition == IND_EDITION_2;\n" + opcodes),
+    ("work", "smears in edition 2", '#include "parts.h"\n', '#include "parts.h"\n\nstatic int second;\n', higher,
+     higher.replace(";", " && !second;"), opcodes, "    second = device->edition == IND_EDITION_2;\n" + opcodes),
+]
+edits += [("faults", label, "    return addresses_hold(command, %s)\n" % asked,
+           "    return addresses_hold(command, %s)\n        && !(has_source(command) && command->arg0 < command->arg1 + %s\n"
+           "             && command->arg1 < command->arg0 + %s)\n" % (asked, size, size)) for label, asked, size in [
+    ("sides of a COPY_BUFFER that overlap give 8", "(uint64_t)WORD * command->len, window_length", "WORD * command->len"),
+    ("sides of a BLIT that overlap give 8", "bytes, ring->window_length", "bytes"),
+]]

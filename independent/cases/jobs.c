@@ -13,7 +13,8 @@ enum {
     LAID_MOST = COUNTS_BYTES + IND_WINDOWS_BYTES
               + IND_RINGS * (IND_RING_MOST + ROOM_BESIDE) + PACK_MOST
               + WORD * (IND_JOB_WORDS_MOST + 1),
-    JOB_MOST = IND_INPUT_MOST + ROOM_BESIDE
+    JOB_MOST = IND_INPUT_MOST + ROOM_BESIDE,
+    SCROLLED_MOST = 40 /* words written before a copy */
 };
 
 static uint8_t room[LAID_MOST + GUARD];
@@ -50,6 +51,27 @@ static void add_probe(struct scene *s, uint32_t ring)
     add_command(s, ring, &command);
 }
 
+/* Words for both sides of a copy, which mostly overlap, then the copy, and the
+ * probe that tells what it left. */
+static void draw_scroll(struct scene *s, uint32_t ring)
+{
+    const struct ind_ring *own = &s->device.rings[ring];
+    int opcode = own->frame.held != 0 && mille(s->c, 700) ? BLIT : COPY_BUFFER;
+    struct ind_command copy = draw_command(s, ring, opcode);
+    uint32_t lower = copy.arg0 < copy.arg1 ? copy.arg0 : copy.arg1;
+    uint32_t left = lower < own->window_length
+        ? (own->window_length - lower) / WORD : 0;
+    const struct ind_command words = {
+        .opcode = WRITE_MEM, .flags = FLAG_PAYLOAD, .arg0 = lower,
+        .len = left < SCROLLED_MOST ? left : SCROLLED_MOST
+    };
+
+    add_command(s, ring, &words);
+    add_command(s, ring, &copy);
+    foresee(s, ring, &copy);
+    add_probe(s, ring);
+}
+
 static void draw_job_command(struct scene *s)
 {
     static const uint8_t opcodes[10] = {
@@ -59,6 +81,10 @@ static void draw_job_command(struct scene *s)
     uint32_t ring = below(s->c, IND_RINGS);
     uint32_t opcode = opcodes[below(s->c, 10)];
 
+    if (s->probes != 0 && mille(s->c, 120)) {
+        draw_scroll(s, ring);
+        return;
+    }
     if ((opcode == FILL_RECT || opcode == BLIT)
         && s->device.rings[ring].frame.held == 0 && !mille(s->c, 150))
         opcode = SET_FB; /* first */
@@ -82,6 +108,8 @@ static void draw_sections(struct scene *s)
 {
     s->slots = 1 + below(s->c, 4);
     draw_memory(s, 4 * any_words(s));
+    if (mille(s->c, 500))
+        mix_memory(s);
     for (uint32_t ring = 0; ring < IND_RINGS; ring++)
         draw_window(s, ring);
     s->probes = mille(s->c, 700) ? IND_RINGS : 0;

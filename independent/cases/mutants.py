@@ -70,7 +70,7 @@ def not_seen(work, records, edits):
     for name, label, *pairs in edits:
         text, status = told(recordcheck(work, name, edited(name, label, pairs)), records)
         missed += status == 0
-        print("%-8s %-48s %s%s" % (name, label, "NOT SEEN " if status == 0 else "", text), flush=True)
+        print("%-8s %-60s %s%s" % (name, label, "NOT SEEN " if status == 0 else "", text), flush=True)
     return missed
 
 

@@ -7,7 +7,7 @@ enum { HEADER = IND_HEADER_BYTES, NOISE_MOST = 40 }; /* bytes */
  * any number. Of a ring that is not to be served, more often nothing. */
 static uint32_t any_cursor(struct scene *s, uint32_t ring)
 {
-    switch (below(s->c, ring == s->lead ? 20 : 32)) {
+    switch (below(s->c, ring == s->lead ? 25 : 44)) {
     case 0:
     case 1:
         return HEADER * (1 + below(s->c, 2));
@@ -56,7 +56,7 @@ static void add_head(struct scene *s, uint32_t ring)
     uint32_t size = add_command(s, ring, &command);
     if (s->heads[ring] == HEAD_CUT)
         cut(s, ring, size);
-    else if (mille(s->c, 120)) /* something behind it */
+    else if (mille(s->c, 90)) /* something behind it */
         add_noise(s, ring, 1 + below(s->c, 24));
 }
 

@@ -15,7 +15,7 @@ void scene_start(struct scene *s, struct call *call, struct chance *c,
     s->c = c;
     s->call = call;
     s->odd = odd_mille;
-    s->opcode = s->style = s->len = s->full = s->waits = ANY;
+    s->opcode = s->style = s->len = s->full = s->waits = s->overlap = ANY;
     s->slots = 8;
     s->device.limit = IND_LIMIT_DEFAULT;
     s->device.edition = IND_EDITION_1;
@@ -27,9 +27,21 @@ int odd(struct scene *s)
     return mille(s->c, s->odd);
 }
 
-static uint32_t any_memory_len(struct chance *c)
+static int copies(const struct scene *s)
 {
-    switch (below(c, 28)) {
+    return s->opcode == BLIT || s->opcode == COPY_BUFFER;
+}
+
+/* A copy's is short: it is filled all over. */
+static uint32_t any_memory_len(struct scene *s)
+{
+    struct chance *c = s->c;
+    uint32_t way = below(c, 28);
+
+    if (copies(s) && way > 1)
+        return s->opcode == BLIT ? 48 + 4 * below(c, 23)
+                                 : 40 + 4 * below(c, 17);
+    switch (way) {
     case 0: /* no multiple of 4 is asked of the memory itself */
         return below(c, 400);
     case 1:
@@ -39,8 +51,16 @@ static uint32_t any_memory_len(struct chance *c)
     case 3:
         return 1024 + 4 * below(c, 257);
     default:
-        return 96 + 4 * below(c, 41);
+        return 80 + 4 * below(c, 30);
     }
+}
+
+void mix_memory(struct scene *s)
+{
+    uint8_t *bytes = s->call->pieces[PIECE_MEMORY].bytes;
+
+    for (uint32_t i = 0; i < s->memory_len / WORD; i++)
+        ind_put(bytes + (size_t)WORD * i, WORD, any_word(s->c));
 }
 
 /* Bytes all over, or at the front of zeros: few for a command that has nothing
@@ -48,12 +68,14 @@ static uint32_t any_memory_len(struct chance *c)
 void draw_memory(struct scene *s, uint32_t length)
 {
     struct piece *memory = &s->call->pieces[PIECE_MEMORY];
-    uint32_t usual = s->opcode == BARRIER || s->opcode == SET_FB ? 8 : 28;
-    uint32_t filled = mille(s->c, 960) ? usual : 400;
+    uint32_t usual = s->opcode == BARRIER || s->opcode == SET_FB ? 8 : 24;
+    uint32_t filled = mille(s->c, 970) ? usual : 400;
 
     s->memory_len = length;
     piece_zeros(memory, length);
     edge_bytes(s->c, memory->bytes, filled < length ? filled : length);
+    if (copies(s))
+        mix_memory(s);
 }
 
 /* A window inside the memory. The leading ring's is rarely small. */
@@ -63,7 +85,7 @@ void draw_window(struct scene *s, uint32_t number)
     uint32_t words = s->memory_len / 4, first = 0, count = words;
     uint32_t way = below(s->c, 16);
 
-    if (s->style == STYLE_LATE && mille(s->c, 120))
+    if (s->style == STYLE_LATE && mille(s->c, 150))
         way = 0;
     if (way == 0) { /* empty, at the memory's end too */
         first = below(s->c, words + 1);
@@ -89,7 +111,8 @@ struct ind_frame draw_frame(struct scene *s, uint32_t window_length)
         return frame;
     frame.held = 1;
     frame.base = 4 * below(s->c, window_length / 4);
-    frame.stride = 4 + 4 * below(s->c, 12);
+    frame.stride = s->opcode == BLIT ? 8 + 4 * below(s->c, 5)
+                                     : 4 + 4 * below(s->c, 12);
     if (odd(s)) {
         static const uint32_t strides[4] = {
             IND_STRIDE_LEAST, 8, IND_STRIDE_MOST - 4, IND_STRIDE_MOST
@@ -100,10 +123,12 @@ struct ind_frame draw_frame(struct scene *s, uint32_t window_length)
     return frame;
 }
 
-/* Without a frame a rectangle is nothing but a fault. */
-static int wants_frame(const struct scene *s, uint32_t ring)
+/* So many of 1,000 rings have a frame: without one a rectangle is nothing but a
+ * fault. */
+static uint32_t framed(const struct scene *s, uint32_t ring)
 {
-    return ring == s->lead && (s->opcode == FILL_RECT || s->opcode == BLIT);
+    return ring == s->lead && (s->opcode == FILL_RECT || s->opcode == BLIT)
+        ? 1000 - s->odd : 400;
 }
 
 /* In so many of 1,000 scenes most slots in use lie at an edge. More in edition
@@ -171,7 +196,7 @@ static int any_opcode(struct scene *s)
         WRITE_MEM, READ_MEM, FILL_RECT, BLIT, BARRIER, COPY_BUFFER, SET_FB
     };
 
-    return mille(s->c, 470) ? DISPATCH_1D : opcodes[below(s->c, 7)];
+    return mille(s->c, 460) ? DISPATCH_1D : opcodes[below(s->c, 7)];
 }
 
 static void draw_taken(struct scene *s)
@@ -194,7 +219,7 @@ void draw_state(struct scene *s, uint32_t memory_len)
     s->device.limit = s->style == STYLE_EXACT ? exact_limit(s->c)
                     : s->style == STYLE_LATE ? late_limit(s->c)
                                              : usual_limit(s->c);
-    draw_memory(s, memory_len != 0 ? memory_len : any_memory_len(s->c));
+    draw_memory(s, memory_len != 0 ? memory_len : any_memory_len(s));
     s->device.edition = s->full != ANY && mille(s->c, 300)
         ? IND_EDITION_1 : any_edition(s->c);
     s->edged = s->waits != ANY ? 850 : 250;
@@ -203,12 +228,12 @@ void draw_state(struct scene *s, uint32_t memory_len)
     for (uint32_t i = 0; i < IND_RINGS; i++) {
         struct ind_ring *ring = &s->device.rings[i];
         draw_window(s, i);
-        if (mille(s->c, wants_frame(s, i) ? 850 : 400))
+        if (mille(s->c, framed(s, i)))
             ring->frame = draw_frame(s, ring->window_length);
     }
 }
 
-/* Filled at its front for a READ_MEM, and in four of ten other cases: with few
+/* Filled at its front for a READ_MEM, and in one of four other cases: with few
  * bytes, seldom none. In two of 1,000 cases it is filled all over. */
 void draw_pipe(struct scene *s)
 {
@@ -217,7 +242,7 @@ void draw_pipe(struct scene *s)
 
     if (s->opcode == READ_MEM)
         filled = below(s->c, 32);
-    else if (mille(s->c, 400))
+    else if (mille(s->c, 250))
         filled = below(s->c, 12);
     if (mille(s->c, 100))
         length += below(s->c, PIPE_ROOM_BESIDE + 1);

@@ -27,6 +27,7 @@ struct scene {
     int len;    /* of a transfer */
     int full;   /* so many of 1,000 slots in use are full, or one below it */
     int waits;  /* so many of 1,000 commands wait, for slots at an edge */
+    int overlap; /* so many of 1,000 copies have sides that lie close */
 
     uint32_t edged; /* so many of 1,000 targets lie at an edge; 0: none */
 
@@ -51,6 +52,8 @@ void scene_start(struct scene *s, struct call *call, struct chance *c,
 void draw_state(struct scene *s, uint32_t memory_len);
 /* Parts of it. A window lies inside the memory. */
 void draw_memory(struct scene *s, uint32_t length);
+/* Different words all over it: among equal ones no copy shows its order. */
+void mix_memory(struct scene *s);
 void draw_window(struct scene *s, uint32_t ring);
 
 /* A frame that SET_FB would take, or none in an empty window. */

@@ -12,6 +12,7 @@ wrong=0
 asked='if (memory_refused(device, lent->memory_len))'
 making='if (memory_refused(device, memory_len))'
 lending='before->nulls = n % 2 == 1;'
+self="$build/whole/self.o $build/whole/editions.o $build/whole/stops.o $build/whole/copies.o"
 objects=$(cd "$top" && find device cases -name '*.c' ! -path device/device.c ! -path device/replay.c |
     sed "s|^|$build/|; s|c\$|o|")
 
@@ -36,7 +37,8 @@ build_with() { # TEXT TEXT: the device with the second in the place of the first
     edit device device "$1" "$2"
     link record "$build/records/record.o" "$build/records/records.o"
     link recordcheck "$build/records/recordcheck.o" "$build/records/records.o"
-    link compare-self "$build/whole/whole.o" "$build/whole/self.o" "$build/whole/editions.o" "$build/whole/stops.o"
+    # shellcheck disable=SC2086
+    link compare-self "$build/whole/whole.o" $self
     link compare-runs "$build/runs/run.o" "$build/runs/outputs.o" "$build/runs/spawn.o"
     link replay "$build/device/replay.o"
 }
@@ -84,7 +86,8 @@ try_calls 1
 echo "with the device as it is, and nothing lent as NULL"
 build_with "$asked" "$asked"
 edit whole whole "$lending" "before->nulls = 0;"
-link compare-self "$work/whole.o" "$build/whole/self.o" "$build/whole/editions.o" "$build/whole/stops.o"
+# shellcheck disable=SC2086
+link compare-self "$work/whole.o" $self
 try 1 "500 calls, 0 differ" "$work/compare-self" 500 1
 rm -rf "$work"
 echo "16 runs, $wrong wrong"

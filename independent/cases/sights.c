@@ -1,5 +1,6 @@
 #include "cases/sights.h"
 
+#include <stdlib.h>
 #include <string.h>
 
 #include "device/image.h"
@@ -28,7 +29,6 @@ const char *const sight_names[SIGHTS] = {
     [SEEN_LEN_255] = "a transfer of len 255, done",
     [SEEN_WINDOW_END] = "a transfer up to the window's end, done",
     [SEEN_PAST_END] = "a transfer one word past the window's end",
-    [SEEN_OVERLAP] = "a copy or blit onto itself, moved a little",
     [SEEN_EMPTY] = "an empty rectangle, done",
     [SEEN_EMPTY_FAULTY] = "an empty rectangle, outcome 6 or 7",
     [SEEN_FULL_WIDTH] = "a rectangle as wide as the stride, done",
@@ -42,6 +42,20 @@ const char *const sight_names[SIGHTS] = {
     [SEEN_FULL_RING] = "a payload that ends a ring of 65,536 bytes, written",
     [SEEN_FULL_CODE] = "a kernel that ends a code of 16,384 words, done"
 };
+
+struct ind_window window_again(const struct served *v)
+{
+    const struct ind_ring *own = &v->device.rings[v->report.ring];
+    const struct piece *memory = &v->before->pieces[PIECE_MEMORY];
+    const struct ind_window window = {
+        malloc(memory->length + 1), own->window_start, own->window_length
+    };
+
+    if (window.memory == NULL)
+        abort();
+    memcpy(window.memory, memory->bytes, memory->length);
+    return window;
+}
 
 static int memory_changed(const struct served *v)
 {
@@ -125,19 +139,6 @@ static void see_transfer(const struct served *v, uint64_t *counts)
     counts[SEEN_WORDS] += v->report.words_read != 0;
 }
 
-/* Closer than the words that are moved, but not the same place. */
-static void see_overlap(const struct served *v, uint64_t *counts)
-{
-    const struct ind_command *command = &v->command;
-    uint32_t width = command->opcode == BLIT
-        ? ind_rectangle_size(command).width : command->len;
-    uint32_t apart = command->arg0 < command->arg1
-        ? command->arg1 - command->arg0 : command->arg0 - command->arg1;
-
-    counts[SEEN_OVERLAP] += v->report.outcome == IND_DONE && apart != 0
-        && apart < WORD * width;
-}
-
 static void see_rectangle(const struct served *v, uint64_t *counts)
 {
     struct ind_size size = ind_rectangle_size(&v->command);
@@ -185,19 +186,13 @@ void see_served(const struct served *v, uint64_t counts[SIGHTS])
     if (ind_header_fault(&v->command) != IND_DONE)
         return;
     switch (v->command.opcode) {
-    case COPY_BUFFER:
-        see_overlap(v, counts);
-        see_transfer(v, counts);
-        break;
     case WRITE_MEM:
     case READ_MEM:
+    case COPY_BUFFER:
         see_transfer(v, counts);
         break;
-    case BLIT:
-        see_overlap(v, counts);
-        see_rectangle(v, counts);
-        break;
     case FILL_RECT:
+    case BLIT:
         see_rectangle(v, counts);
         break;
     case DISPATCH_1D:

@@ -18,7 +18,7 @@ enum sight {
     SEEN_KEPT_STORES, SEEN_THREADS, SEEN_LAST_STEP, SEEN_STEP_MORE,
     SEEN_LATER_RING, SEEN_RING_END, SEEN_REWRITTEN, SEEN_LEN_0,
     SEEN_LEN_0_OUTSIDE, SEEN_LEN_255, SEEN_WINDOW_END, SEEN_PAST_END,
-    SEEN_OVERLAP, SEEN_EMPTY, SEEN_EMPTY_FAULTY, SEEN_FULL_WIDTH,
+    SEEN_EMPTY, SEEN_EMPTY_FAULTY, SEEN_FULL_WIDTH,
     SEEN_SIDE_64, SEEN_SIDE_65, SEEN_LAST_KERNEL, SEEN_NEXT_KERNEL,
     SEEN_FIRST_TAKEN, SEEN_BOTH_ROUND, SEEN_SUMS_ROUND, SEEN_FULL_RING,
     SEEN_FULL_CODE,
@@ -26,6 +26,10 @@ enum sight {
 };
 
 extern const char *const sight_names[SIGHTS];
+
+/* The served ring's window on a copy of the memory before, for its command to
+ * be worked again. The copy is to be freed. */
+struct ind_window window_again(const struct served *v);
 
 /* Adds 1 to each thing that this command shows; SEEN_LAST_STEP and
  * SEEN_STEP_MORE are left out, as only the steps themselves tell them. */

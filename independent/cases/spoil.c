@@ -142,7 +142,7 @@ static void spoil_ring(struct call *call, struct chance *c)
     struct piece *ring = &call->pieces[PIECE_RING + number];
     uint32_t cursor = get_word(image_word(call, number, IND_IMAGE_CURSOR));
 
-    if (mille(c, 300)) /* just as long as it may be, or longer */
+    if (mille(c, 400)) /* just as long as it may be, or longer */
         piece_zeros(ring, IND_RING_MOST + (mille(c, 300) ? 0
                                            : 1 + below(c, 3)));
     else if (cursor <= ring->length)

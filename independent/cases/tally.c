@@ -4,6 +4,7 @@
 #include <stdlib.h>
 #include <string.h>
 
+#include "cases/copies.h"
 #include "cases/fences.h"
 #include "cases/limits.h"
 #include "cases/lines.h"
@@ -91,23 +92,15 @@ static struct served served_of(const struct call *before,
 /* A dispatch, run again on a copy of the memory. */
 static void tally_run(const struct served *v)
 {
-    const struct ind_ring *own = &v->device.rings[v->report.ring];
-    const struct piece *memory = &v->before->pieces[PIECE_MEMORY];
     const struct piece *pack = &v->before->pieces[PIECE_PACK];
-    uint8_t *copy = malloc(memory->length + 1);
-    const struct ind_window window = {
-        copy, own->window_start, own->window_length
-    };
     struct ind_kernel kernel;
     struct trace trace;
 
-    if (copy == NULL
-        || !ind_kernel_extent(pack->bytes, pack->length, v->command.arg2,
-                              &kernel))
+    if (!ind_kernel_extent(pack->bytes, pack->length, v->command.arg2, &kernel))
         abort();
-    memcpy(copy, memory->bytes, memory->length);
+    struct ind_window window = window_again(v);
     trace_dispatch(&trace, &kernel, &window, &v->command, v->device.limit);
-    free(copy);
+    free(window.memory);
     count_trace(&trace);
     count.limit[span_of(limits, v->device.limit)]++;
     if (v->report.outcome != IND_DONE)
@@ -124,6 +117,8 @@ static void tally_served(const struct call *before, const struct call *after)
     for (int i = 0; i < OPCODES; i++)
         count.opcode_done[i] += v.report.outcome == IND_DONE
             && opcodes[i].opcode == v.command.opcode;
+    if (v.report.outcome == IND_DONE)
+        copies_done(&v);
     if (ran(&v))
         tally_run(&v);
 }
@@ -276,6 +271,7 @@ static int table_of(FILE *out)
     title(out, "calls that ran a kernel, by the limit of steps");
     missing += span_lines(out, "limit", IND_LIMIT_LEAST, limits, count.limit,
                           LIMITS);
+    missing += copies_lines(out);
     missing += stops_lines(out);
     missing += fences_lines(out);
     title(out, "calls that show");

@@ -1,13 +1,32 @@
 /* The work of a command that has no fault (1 to 10). */
 #include "parts.h"
 
-/* Rising order, each word read when its turn comes: an overlap is seen. */
-static void copy_words(const struct ind_window *window, uint32_t dst,
-                       uint32_t src, uint32_t words)
+/* How far word i of a rectangle lies from its first: by rows from the top, each
+ * from the left. */
+static uint32_t word_place(struct ind_size size, uint32_t stride, uint32_t i)
 {
-    for (uint32_t i = 0; i < words; i++)
-        ind_store(window, dst + WORD * i, WORD,
-                  ind_load(window, src + WORD * i, WORD));
+    return i / size.width * stride + i % size.width * WORD;
+}
+
+/* From arg1 to arg0, as if every word were read before any is written, with no
+ * place to keep them. All move by one distance, and of two words the later lies
+ * higher on either side, as no row is longer than the stride (outcome 7). So a
+ * word that moves to a higher place can only fall on the source of a later one,
+ * and the last goes first; one that moves lower, on that of an earlier one, and
+ * the first goes first. Where the rows of the two sides interleave makes no
+ * difference to this. */
+static void copy_rectangle(const struct ind_window *window,
+                           const struct ind_command *command,
+                           struct ind_size size, uint32_t stride)
+{
+    uint32_t words = size.width * size.height; /* 0 of an empty rectangle */
+    int higher = command->arg0 > command->arg1;
+
+    for (uint32_t i = 0; i < words; i++) {
+        uint32_t at = word_place(size, stride, higher ? words - 1 - i : i);
+        ind_store(window, command->arg0 + at, WORD,
+                  ind_load(window, command->arg1 + at, WORD));
+    }
 }
 
 static void write_payload(const struct ind_window *window,
@@ -26,20 +45,17 @@ static void read_to_pipe(const struct ind_window *window,
                 ind_load(window, command->arg0 + WORD * i, WORD));
 }
 
-/* Row by row from the top. Rows of an empty rectangle do nothing, and their
- * addresses, which may wrap, are not used. */
-static void draw_rectangle(const struct ind_window *window,
+/* Rows of an empty rectangle do nothing, and their addresses, which may wrap,
+ * are not used. */
+static void fill_rectangle(const struct ind_window *window,
                            const struct ind_command *command, uint32_t stride)
 {
     struct ind_size size = ind_rectangle_size(command);
 
     for (uint32_t y = 0; y < size.height; y++) {
         uint32_t dst = command->arg0 + y * stride;
-        if (command->opcode == BLIT)
-            copy_words(window, dst, command->arg1 + y * stride, size.width);
-        else
-            for (uint32_t x = 0; x < size.width; x++)
-                ind_store(window, dst + WORD * x, WORD, command->arg2);
+        for (uint32_t x = 0; x < size.width; x++)
+            ind_store(window, dst + WORD * x, WORD, command->arg2);
     }
 }
 
@@ -66,6 +82,7 @@ uint32_t ind_work(struct ind_device *device, uint32_t ring,
     const struct ind_window window = {
         lent->memory, own->window_start, own->window_length
     };
+    const struct ind_size one_row = {command->len, 1};
 
     switch (command->opcode) {
     case WRITE_MEM:
@@ -75,11 +92,14 @@ uint32_t ind_work(struct ind_device *device, uint32_t ring,
         read_to_pipe(&window, command, lent->pipe);
         break;
     case COPY_BUFFER:
-        copy_words(&window, command->arg0, command->arg1, command->len);
+        copy_rectangle(&window, command, one_row, WORD * command->len);
         break;
     case FILL_RECT:
+        fill_rectangle(&window, command, own->frame.stride);
+        break;
     case BLIT:
-        draw_rectangle(&window, command, own->frame.stride);
+        copy_rectangle(&window, command, ind_rectangle_size(command),
+                       own->frame.stride);
         break;
     case SET_FB:
         own->frame = ind_frame_asked(command);

@@ -205,36 +205,6 @@ static void write_then_read(void)
     stage_free(stage);
 }
 
-/* Overlaps show the order: a copy upward by one word repeats the first. */
-static void copies(void)
-{
-    struct stage *stage = stage_new(64);
-
-    for (uint32_t i = 0; i < 16; i++)
-        put_word(stage->memory + 4 * i, i + 1);
-    CHECK_EQ(serve(stage, head(COPY, 0, 0, 3), 4, 0, 0), 0);
-    CHECK_EQ(get_word(stage->memory + 12), 1);
-    CHECK_EQ(get_word(stage->memory + 16), 5);
-    CHECK_EQ(serve(stage, head(COPY, 0, 0, 3), 16, 20, 0), 0);
-    CHECK_EQ(get_word(stage->memory + 16), 6);
-    CHECK_EQ(get_word(stage->memory + 24), 8);
-    CHECK_EQ(get_word(stage->memory + 28), 8);
-    for (uint32_t i = 0; i < 16; i++)
-        put_word(stage->memory + 4 * i, i + 1);
-    CHECK_EQ(serve(stage, head(FB, 0, 0, 0), 0, 16, 0), 0);
-    /* Two columns of three rows, one row down and one pixel right. */
-    CHECK_EQ(serve(stage, head(BLIT, 0, 0, 0), 20, 0, wide_high(2, 3)), 0);
-    const uint32_t want[16] = {
-        1, 2, 3, 4, 5, 1, 2, 8, 9, 5, 1, 12, 13, 9, 5, 16
-    };
-    for (uint32_t i = 0; i < 16; i++)
-        CHECK_EQ(get_word(stage->memory + 4 * i), want[i]);
-    /* One row, one pixel right: from the left, the first pixel is repeated. */
-    CHECK_EQ(serve(stage, head(BLIT, 0, 0, 0), 4, 0, wide_high(3, 1)), 0);
-    CHECK_EQ(get_word(stage->memory + 12), 1);
-    stage_free(stage);
-}
-
 void test_commands(void)
 {
     header_faults();
@@ -245,5 +215,4 @@ void test_commands(void)
     window_edges();
     dispatch_sides();
     write_then_read();
-    copies();
 }

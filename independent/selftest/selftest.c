@@ -193,6 +193,7 @@ int main(void)
     faulty_header_does_not_wait();
     failed_command_signals();
     test_commands();
+    test_copies();
     test_turns();
     test_calls();
     test_limits();

@@ -105,6 +105,7 @@ void pack_one(struct stage *stage, const uint32_t *words, uint32_t count);
 /* ---- the files of the selftest ---- */
 
 void test_commands(void);
+void test_copies(void);
 void test_turns(void);
 void test_calls(void);
 void test_limits(void);

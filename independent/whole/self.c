@@ -1,5 +1,6 @@
 /* The independent device in the archive's place, to try the comparison itself.
  * With MUTANT it makes one error, which the comparison has to tell. */
+#include <stdlib.h>
 #include <string.h>
 
 #include "whole/self.h"
@@ -24,6 +25,30 @@ enum {
     LAST_OUTCOME = TAKEN + COUNTS_BYTES - WORD,
     SHORT_REPORT = WORD * IND_REPORT_ADDRESS /* without a stop */
 };
+
+uint8_t memory_before[IND_MEMORY_MOST];
+
+static void keep_memory(const uint8_t *memory, size_t memory_len)
+{
+    if (memory_len != 0 && memory_len <= IND_MEMORY_MOST)
+        memcpy(memory_before, memory, memory_len);
+}
+
+struct taken taken_by(const struct turned *t)
+{
+    struct ind_device device;
+    struct taken taken;
+
+    ind_image_decode(t->before, &device);
+    ind_report_decode(t->report, &taken.report);
+    uint32_t number = taken.report.ring;
+    taken.ring = device.rings[number];
+    taken.limit = device.limit;
+    if (!ind_command_whole(t->ring[number], t->ring_len[number],
+                           taken.ring.cursor, &taken.command))
+        abort();
+    return taken;
+}
 
 static void add(uint8_t *word, uint32_t more)
 {
@@ -331,6 +356,7 @@ static void err_turned(struct turned *t)
 {
     err_limit(t);
     if (t->answer == IND_SERVED) {
+        err_copies(t);
         err_served(t);
         err_counted(t);
     } else if (t->answer < IND_WRONG_IMAGE) {

@@ -1,4 +1,5 @@
-/* What self.c, editions.c and stops.c share: a turn in the archive's place. */
+/* What self.c, editions.c, stops.c and copies.c share: a turn in the archive's
+ * place. */
 #ifndef SELF_H
 #define SELF_H
 
@@ -25,12 +26,23 @@ void misread_edition(uint8_t *image);
 void misjudge_waits(const uint8_t *image, const uint8_t *ring[IND_RINGS],
                     size_t ring_len[IND_RINGS]);
 
-/* Keeps the memory for err_stops. */
-void keep_memory(const uint8_t *memory, size_t memory_len);
+/* The memory that a turn was handed. */
+extern uint8_t memory_before[IND_MEMORY_MOST];
 
-/* Errors of a turn, after it. */
+/* What a served turn took from its ring. */
+struct taken {
+    struct ind_ring ring; /* before it */
+    struct ind_command command;
+    struct ind_report report;
+    uint32_t limit;
+};
+
+struct taken taken_by(const struct turned *t);
+
+/* Errors of a turn, after it; of copies, of one that was served. */
 void err_edition(struct turned *t);
 void err_stops(struct turned *t);
+void err_copies(struct turned *t);
 
 /* Errors of a making of edition 1, after it. */
 void err_edition_1_made(uint8_t *device, uint32_t answer);

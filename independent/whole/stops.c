@@ -14,17 +14,6 @@ enum {
     STOP_BYTES = IND_REPORT_BYTES - ADDRESS
 };
 
-/* What was handed in, for the dispatch to be run again. */
-static uint8_t memory_before[IND_MEMORY_MOST];
-static size_t memory_kept;
-
-void keep_memory(const uint8_t *memory, size_t memory_len)
-{
-    memory_kept = memory_len <= IND_MEMORY_MOST ? memory_len : 0;
-    if (memory_kept != 0)
-        memcpy(memory_before, memory, memory_kept);
-}
-
 /* A dispatch that ran, once more. */
 struct again {
     struct ind_ring ring;
@@ -35,24 +24,21 @@ struct again {
     uint32_t limit;
 };
 
+/* On the memory before, which it changes. */
 static struct again run_again(const struct turned *t)
 {
-    struct ind_device device;
-    struct again again;
-
-    ind_image_decode(t->before, &device);
-    ind_report_decode(t->report, &again.report);
-    uint32_t number = again.report.ring;
-    again.ring = device.rings[number];
-    again.limit = device.limit;
-    if (!ind_command_whole(t->ring[number], t->ring_len[number],
-                           again.ring.cursor, &again.command)
-        || !ind_kernel_extent(t->pack, t->pack_len, again.command.arg2,
-                              &again.kernel))
-        abort();
+    struct taken taken = taken_by(t);
+    struct again again = {
+        .ring = taken.ring, .command = taken.command, .report = taken.report,
+        .limit = taken.limit
+    };
     const struct ind_window window = {
         memory_before, again.ring.window_start, again.ring.window_length
     };
+
+    if (!ind_kernel_extent(t->pack, t->pack_len, again.command.arg2,
+                           &again.kernel))
+        abort();
     trace_dispatch(&again.trace, &again.kernel, &window, &again.command,
                    again.limit);
     return again;

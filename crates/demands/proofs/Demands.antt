@@ -13,7 +13,7 @@ use Rattle.demands.specs.Idle.{IdleIsDone}
 use Rattle.demands.specs.EachStep.{EachStep}
 use Rattle.demands.specs.OneAnswer.{OneAnswer}
 use Rattle.demands.specs.Stops.{OneStop}
-use Rattle.demands.specs.Table.{Table, LeastLimit, WhereStopped, RoundTheWrap, ReadyNoLonger}
+use Rattle.demands.specs.Table.{Table, LeastLimit, WhereStopped, Scrolled, RoundTheWrap, ReadyNoLonger}
 use Rattle.demands.proofs.FourTurns as four
 use Rattle.demands.proofs.Rising as rising
 use Rattle.demands.proofs.Keeps as keeps
@@ -121,12 +121,15 @@ one-answer = one.one-answer
 pub table : Table
 table = worked.table
 
--- and the least limit, where a thread stops, and the wrap beside them
+-- and the least limit, where a thread stops, a frame that is scrolled, and the wrap beside them
 pub least-limit : LeastLimit
 least-limit = worked.least-limit
 
 pub where-stopped : WhereStopped
 where-stopped = worked.where-stopped
+
+pub scrolled : Scrolled
+scrolled = worked.scrolled
 
 pub round-the-wrap : RoundTheWrap
 round-the-wrap = worked.round-the-wrap

@@ -23,7 +23,7 @@ use Rattle.kernel.specs.Dispatch.{Dispatched, stopAt, ranOf, shown, ifDone, thr
 use Rattle.kernel.specs.Site.{siteAt, siteOf}
 use Rattle.kernel.proofs.Examples as kernel
 use Rattle.kernel.specs.Examples.{afterWord, bytesOfWords, packOfWords, packOf}
-use Rattle.demands.specs.Table.{framedUnder, colored, StopOn0, oneThread, holding, vector, Table, LeastLimit, WhereStopped, RoundTheWrap, ReadyNoLonger}
+use Rattle.demands.specs.Table.{framedUnder, colored, StopOn0, oneThread, holding, vector, Table, LeastLimit, WhereStopped, Scrolled, RoundTheWrap, ReadyNoLonger}
 use Rattle.state.specs.Device.{defaultLimit, freshDevice, ringOf, slotOf, withRing, withSlots, withMarker, withCounts}
 use Rattle.state.specs.PlusOne.{plusOneAt}
 use Rattle.state.specs.Counts.{counted, total, balanced}
@@ -44,7 +44,8 @@ use Rattle.memory.specs.Address.{firstOutside, reachOf, ifInside}
 use Rattle.memory.specs.Access.{withValue, storeOf}
 use Rattle.memory.specs.After.{after}
 use Rattle.memory.specs.Place.{halfAt, wordAt, withByte, withHalf, withWord}
-use Rattle.memory.specs.Rectangle.{rectangleEnd, filledRow, filled}
+use Rattle.memory.specs.Rectangle.{rectangleEnd, wordsPut, pixelsPut, filled}
+use Rattle.memory.specs.Copy.{copied, blitted}
 use Rattle.memory.specs.Window.{windowOf, putBack}
 use Rattle.memory.proofs.Reach.{first-is-own}
 use Rattle.pack.specs.Kernels.{kernelCount, firstWord, kernelWords, codeCount, liesInCode, soundPack, kernelOf}
@@ -76,8 +77,8 @@ unfolding dispatchOf threadsOf threadMore ifDone threadOf shown ranOf runOf step
 elsewhere = (refl, refl, refl, refl)
 
 -- all at once, since they open the same definitions
-worked : Table × LeastLimit × WhereStopped × RoundTheWrap × ReadyNoLonger
-unfolding RoundTheWrap ReadyNoLonger firstOutside bytesOfWords valuesOf colored freshDevice ringOf slotOf withRing withSlots plusOneAt withMarker withCounts counted total balanced windowFits memoryFits windowsFit ringSound limitFits stateSound ringFits ringsFit verdictOf readyWith readyWhere readyAt nextRing seek bytesOfRing pickOf unchanged fenceOf emitTo ringAfter deviceAfter reportOf finished servedOf pickedOf judgedOf verdictOn turnOf rowOf waitSize payloadSize targetAt commandAt isWhole unknownOpcode wrongPayloadBit noSuchSlot headerFault frameMisaligned frameUnfit frameFault heldFault isRectangle sizeOf widthOf heightOf tooNarrow endOf slotFault misaligned unframed outside unfitFrame outOfRange unfitDispatch checkOf emits interrupts wordsRead leaves stopOutcome ranOutcome ranAs siteOf dispatchedBy afterDispatch heldBy workOf orElse faultOf guarded performedOf after halfAt wordAt withByte withHalf withWord rectangleEnd filledRow filled windowOf putBack kernelCount firstWord kernelWords codeCount liesInCode allBelow soundPack kernelOf
+worked : Table × LeastLimit × WhereStopped × Scrolled × RoundTheWrap × ReadyNoLonger
+unfolding RoundTheWrap ReadyNoLonger firstOutside bytesOfWords valuesOf colored freshDevice ringOf slotOf withRing withSlots plusOneAt withMarker withCounts counted total balanced windowFits memoryFits windowsFit ringSound limitFits stateSound ringFits ringsFit verdictOf readyWith readyWhere readyAt nextRing seek bytesOfRing pickOf unchanged fenceOf emitTo ringAfter deviceAfter reportOf finished servedOf pickedOf judgedOf verdictOn turnOf rowOf waitSize payloadSize targetAt commandAt isWhole unknownOpcode wrongPayloadBit noSuchSlot headerFault frameMisaligned frameUnfit frameFault heldFault isRectangle sizeOf widthOf heightOf tooNarrow endOf slotFault misaligned unframed outside unfitFrame outOfRange unfitDispatch checkOf emits interrupts wordsRead leaves stopOutcome ranOutcome ranAs siteOf dispatchedBy afterDispatch heldBy workOf orElse faultOf guarded performedOf after halfAt wordAt withByte withHalf withWord rectangleEnd wordsPut pixelsPut filled copied blitted windowOf putBack kernelCount firstWord kernelWords codeCount liesInCode allBelow soundPack kernelOf
 worked = (
   record {
     p1 = ((refl, refl), refl);
@@ -111,6 +112,13 @@ worked = (
     branch = (refl, rw (elsewhere .2));
     unlisted = (refl, rw (elsewhere .3));
   },
+  record {
+    down = ((refl, refl), refl);
+    right = ((refl, refl), refl);
+    both = ((refl, refl), refl);
+    across = ((refl, refl), refl);
+    words = ((refl, refl), refl);
+  },
   ((refl, refl), (refl, refl), (refl, refl), (refl, refl), (refl, refl)),
   (refl, (refl, refl), (refl, refl)),
 )
@@ -137,8 +145,11 @@ least-limit = worked .1
 pub where-stopped : WhereStopped
 where-stopped = worked .2
 
+pub scrolled : Scrolled
+scrolled = worked .3
+
 pub round-the-wrap : RoundTheWrap
-round-the-wrap = worked .3
+round-the-wrap = worked .4
 
 pub ready-no-longer : ReadyNoLonger
-ready-no-longer = worked .4
+ready-no-longer = worked .5

@@ -15,7 +15,7 @@ use Rattle.kernel.specs.Thread.{writtenVector}
 use Rattle.kernel.specs.declared.site.Site.{Site}
 use Rattle.kernel.specs.Dispatch.{Dispatched, dispatchOf}
 use Rattle.kernel.specs.Site.{siteAt, noSite, siteOf}
-use Rattle.kernel.specs.Examples.{freshThread, afterWord, scalar, wordBytes, packOfWords, packOf}
+use Rattle.kernel.specs.Examples.{freshThread, afterWord, scalar, wordBytes, bytesOfWords, packOfWords, packOf}
 use Rattle.command.specs.declared.frame.Frame.the-variants.{Held}
 use Rattle.command.specs.Outcome.{outcomeNumber}
 use Rattle.work.specs.Work.{ranOutcome}
@@ -45,9 +45,13 @@ framedUnder limit n m =
 abbrev pub framed : ℕ → ℕ → Device
 framed = framedUnder defaultLimit
 
--- a call with these rings, n zero bytes of memory and no kernels
+-- a call with this memory, these rings and no kernels
+abbrev pub lentOver : List ℕ → List ℕ → List ℕ → List ℕ → List ℕ → Call
+lentOver memory r0 r1 r2 r3 = callOf memory r0 r1 r2 r3 (replicate 8 0) (replicate 1020 0)
+
+-- over n zero bytes
 abbrev pub lent : ℕ → List ℕ → List ℕ → List ℕ → List ℕ → Call
-lent n r0 r1 r2 r3 = callOf (replicate n 0) r0 r1 r2 r3 (replicate 8 0) (replicate 1020 0)
+lent n = lentOver (replicate n 0)
 
 -- FILL_RECT at 4 in a window of n bytes
 abbrev pub fillAt4 : ℕ → ℕ → ℕ → Call
@@ -176,6 +180,64 @@ pub record WhereStopped : Type 0 where
   pub branch : StopOn0 12 (siteAt 0 4 0 0) (turnOf (framedUnder 5 64 0) (dispatch 1 1 (packOfWords (0xFFF00297 ∷ 0x0000020E ∷ []))))
   -- FFF00297 (ADDI), then FFFFFFFF: 11 at its place
   pub unlisted : StopOn0 11 (siteAt 0 4 0 0) (turnOf (framedUnder 5 64 0) (dispatch 1 1 (packOfWords (0xFFF00297 ∷ 0xFFFFFFFF ∷ []))))
+
+-- BLIT of width by height pixels from 0 to `to`, in a frame of these pixels
+abbrev pub blitFrom0 : ℕ → ℕ → ℕ → List ℕ → Call
+blitFrom0 to width height pixels = lentOver (bytesOfWords pixels) (header 0x11 0 0 0 to 0 (width + height * 2 ^ 16)) [] [] []
+
+-- COPY_BUFFER of len words from 0 to `to`
+abbrev pub copyFrom0 : ℕ → ℕ → List ℕ → Call
+copyFrom0 to len pixels = lentOver (bytesOfWords pixels) (header 0x23 0 0 len to 0 0) [] [] []
+
+-- a turn that is done and leaves these pixels
+abbrev pub LeavesPixels : List ℕ → TurnEnd → Type 0
+LeavesPixels pixels end = OutcomeOn0 0 end × (end .memory ≡ bytesOfWords pixels)
+
+-- a frame of 4 by 4 pixels, each told by its row and column
+abbrev pub picture : List ℕ
+picture =
+    11 ∷ 12 ∷ 13 ∷ 14
+    ∷ 21 ∷ 22 ∷ 23 ∷ 24
+    ∷ 31 ∷ 32 ∷ 33 ∷ 34
+    ∷ 41 ∷ 42 ∷ 43 ∷ 44 ∷ []
+
+-- the picture scrolled by one copy within it: nothing smears
+pub record Scrolled : Type 0 where
+  -- BLIT of three rows, one row down; the top row stays
+  pub down : LeavesPixels
+      (11 ∷ 12 ∷ 13 ∷ 14
+      ∷ 11 ∷ 12 ∷ 13 ∷ 14
+      ∷ 21 ∷ 22 ∷ 23 ∷ 24
+      ∷ 31 ∷ 32 ∷ 33 ∷ 34 ∷ [])
+      (turnOf (framed 64 0) (blitFrom0 16 4 3 picture))
+  -- BLIT of three columns, one pixel to the right; the left column stays
+  pub right : LeavesPixels
+      (11 ∷ 11 ∷ 12 ∷ 13
+      ∷ 21 ∷ 21 ∷ 22 ∷ 23
+      ∷ 31 ∷ 31 ∷ 32 ∷ 33
+      ∷ 41 ∷ 41 ∷ 42 ∷ 43 ∷ [])
+      (turnOf (framed 64 0) (blitFrom0 4 3 4 picture))
+  -- BLIT of three by three pixels, one row down and one pixel to the right
+  pub both : LeavesPixels
+      (11 ∷ 12 ∷ 13 ∷ 14
+      ∷ 21 ∷ 11 ∷ 12 ∷ 13
+      ∷ 31 ∷ 21 ∷ 22 ∷ 23
+      ∷ 41 ∷ 31 ∷ 32 ∷ 33 ∷ [])
+      (turnOf (framed 64 0) (blitFrom0 20 3 3 picture))
+  -- BLIT of three rows, two pixels on: each row is written across two of the source's
+  pub across : LeavesPixels
+      (11 ∷ 12 ∷ 11 ∷ 12
+      ∷ 13 ∷ 14 ∷ 21 ∷ 22
+      ∷ 23 ∷ 24 ∷ 31 ∷ 32
+      ∷ 33 ∷ 34 ∷ 43 ∷ 44 ∷ [])
+      (turnOf (framed 64 0) (blitFrom0 8 4 3 picture))
+  -- COPY_BUFFER of 15 words, one word on
+  pub words : LeavesPixels
+      (11 ∷ 11 ∷ 12 ∷ 13
+      ∷ 14 ∷ 21 ∷ 22 ∷ 23
+      ∷ 24 ∷ 31 ∷ 32 ∷ 33
+      ∷ 34 ∷ 41 ∷ 42 ∷ 43 ∷ [])
+      (turnOf (framed 64 0) (copyFrom0 4 15 picture))
 
 -- edition 2 from 4,294,967,294: ring 0 emits three times to slot 5, by 4,294,967,295 and 0 to 1; ring 1 waits for 1 and is
 -- served then, not before; then no ring is ready

@@ -1,8 +1,8 @@
 -- Laws of `after`: no turn, one more turn, what each turn keeps, what one turn makes, what no turn changes any more, turns in rows,
--- and turns that agree.
+-- turns that agree, and turns that may be swapped.
 -- Assumes nothing.
 use mathlib.Core.Path.{_≡_, refl, subst, ap, _∙_}
-use Prim.Native.Nat.{ℕ, zero, suc, _+_, _*_, _≤_, _<_}
+use Prim.Native.Nat.{ℕ, zero, suc, _+_, _-_, _*_, _≤_, _<_}
 use native.Mathlib.Nat.{add-zero, add-suc, zero-mul, suc-mul}
 use native.Mathlib.Numerals.{add-one}
 use native.Mathlib.Decide.{decLt, le-ind}
@@ -68,3 +68,27 @@ unfolding after
 after-agree f g zero m same = refl
 after-agree f g (suc n) m same =
     rw (after-agree f g n m (λ i x b. same i x (omega arith))) (same n (after g n m) (omega arith))
+
+module _ {A : Type 0} (f : ℕ → A → A) where
+  -- what may be swapped with each turn may come before them all
+  pub after-swap : (g : A → A) (n : ℕ) (m : A) → ((i : ℕ) (x : A) → i < n → f i (g x) ≡ g (f i x)) → after f n (g m) ≡ g (after f n m)
+  unfolding after
+  after-swap g zero m swap = refl
+  after-swap g (suc n) m swap = ap (f n) (after-swap g n m (λ i x b. swap i x (omega arith))) ∙ swap n (after f n m) (omega arith)
+
+  -- turns that may be swapped with one another give the same in falling order
+  pub after-falling : (n : ℕ) (m : A) → ((i j : ℕ) (x : A) → i < j → j < n → f i (f j x) ≡ f j (f i x)) → after (λ i. f (n - 1 - i)) n m ≡ after f n m
+  unfolding after
+  after-falling zero m swap = refl
+  after-falling (suc n) m swap =
+      let fall : ℕ → A → A = λ i. f (suc n - 1 - i) in
+      let rest : ℕ → A → A = λ i. f (n - 1 - i) in
+      let next : (i : ℕ) → suc n - 1 - (1 + i) ≡ n - 1 - i = λ i. omega arith in
+      let last : suc n - 1 - 0 ≡ n = omega arith in
+      let count : suc n ≡ 1 + n = omega arith in
+      ap (λ k. after fall k m) count
+      ∙ after-split fall 1 n m
+      ∙ after-agree (λ i. fall (1 + i)) rest n (after fall 1 m) (λ i x b. ap (λ k. f k x) (next i))
+      ∙ ap (after rest n) (ap (λ k. f k m) last)
+      ∙ after-falling n (f n m) (λ i j x low high. swap i j x low (omega arith))
+      ∙ after-swap (f n) n m (λ i x b. swap i n x b (omega arith))

@@ -11,7 +11,7 @@ use Rattle.memory.specs.declared.access.Width.{Width}
 use Rattle.memory.specs.declared.quad.Quad.{Quad}
 use Rattle.memory.specs.Access.{storeOf}
 use Rattle.memory.specs.Quad.{storeQuadOf}
-use Rattle.memory.specs.Rectangle.{filled}
+use Rattle.memory.specs.Rectangle.{wordsPut, pixelsPut, filled}
 use Rattle.memory.specs.Copy.{copied, blitted}
 use Rattle.memory.specs.Transfer.{transferred}
 use Rattle.memory.proofs.Places.{Bytes}
@@ -36,14 +36,23 @@ module _ (m : List ℕ) (bytes : Bytes m) where
   pub store-quad-bytes : (a : ℕ) (q : Quad) → Bytes (storeQuadOf m a q)
   store-quad-bytes a q = kept.store-quad-keeps Bytes m a q (keeps _ _) bytes
 
+  pub words-put-bytes : (address count : ℕ) (word : ℕ → ℕ) → Bytes (wordsPut address count word m)
+  words-put-bytes address count word = kept.words-put-keeps Bytes address count word m (keeps _ _) bytes
+
+  pub pixels-put-bytes : (address stride width height : ℕ) (pixel : ℕ → ℕ → ℕ) → Bytes (pixelsPut address stride width height pixel m)
+  pixels-put-bytes address stride width height pixel = kept.pixels-put-keeps Bytes address stride width height pixel m (λ y b. keeps _ _) bytes
+
   pub filled-bytes : (address stride width height color : ℕ) → Bytes (filled address stride width height color m)
-  filled-bytes address stride width height color = kept.filled-keeps Bytes address stride width height color m (λ y b. keeps _ _) bytes
+  unfolding filled
+  filled-bytes address stride width height color = pixels-put-bytes address stride width height _
 
   pub copied-bytes : (to from words : ℕ) → Bytes (copied to from words m)
-  copied-bytes to from words = kept.copied-keeps Bytes to from words m (keeps _ _) bytes
+  unfolding copied
+  copied-bytes to from words = words-put-bytes to words _
 
   pub blitted-bytes : (to from stride width height : ℕ) → Bytes (blitted to from stride width height m)
-  blitted-bytes to from stride width height = kept.blitted-keeps Bytes to from stride width height m (λ y b. keeps _ _) bytes
+  unfolding blitted
+  blitted-bytes to from stride width height = pixels-put-bytes to stride width height _
 
   pub transferred-bytes : (source : List ℕ) (start at n : ℕ) → Bytes source → Bytes (transferred source start at n m)
   transferred-bytes source start at n small = kept.transferred-keeps Bytes source start at n m (λ i x b h. set-bytes x _ _ (small (start + i)) h) bytes

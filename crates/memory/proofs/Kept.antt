@@ -1,4 +1,4 @@
--- What putting a byte keeps, every store, fill, copy and transfer keeps.
+-- What putting a byte keeps, every store, row, rectangle and transfer keeps.
 -- Assumes nothing.
 use mathlib.Core.List.{List}
 use Prim.Native.Nat.{ℕ, _+_, _*_, _≤_, _<_, _^_}
@@ -13,8 +13,7 @@ use Rattle.memory.specs.Address.{reachOf, ifInside}
 use Rattle.memory.specs.Place.{withByte, withHalf, withWord}
 use Rattle.memory.specs.Access.{bytesOf, withValue, storeOf}
 use Rattle.memory.specs.Quad.{withQuad, storeQuadOf}
-use Rattle.memory.specs.Rectangle.{filledRow, filled}
-use Rattle.memory.specs.Copy.{copied, blitted}
+use Rattle.memory.specs.Rectangle.{wordsPut, pixelsPut}
 use Rattle.memory.specs.Transfer.{transferred}
 use Rattle.memory.proofs.After.{after-keeps}
 
@@ -76,31 +75,19 @@ module _ (P : List ℕ → Type 0) where
   unfolding storeQuadOf
   store-quad-keeps m a q keeps h = if-inside-keeps P (reachOf (length m) a 16) _ _ (with-quad-keeps m a q keeps h) h
 
-  pub filled-row-keeps : (address width color : ℕ) (m : List ℕ) → Keeps P address (address + 4 * width) → P m → P (filledRow address width color m)
-  unfolding filledRow
-  filled-row-keeps address width color m keeps h =
-      after-keeps _ P width m
-      (λ x m′ below. with-word-keeps m′ (address + 4 * x) color (keeps-within address (address + 4 * width) _ _ (omega arith) (omega arith) keeps))
+  pub words-put-keeps : (address count : ℕ) (word : ℕ → ℕ) (m : List ℕ) → Keeps P address (address + 4 * count) → P m → P (wordsPut address count word m)
+  unfolding wordsPut
+  words-put-keeps address count word m keeps h =
+      after-keeps _ P count m
+      (λ i m′ below. with-word-keeps m′ (address + 4 * i) (word i) (keeps-within address (address + 4 * count) _ _ (omega arith) (omega arith) keeps))
       h
 
-  pub filled-keeps : (address stride width height color : ℕ) (m : List ℕ)
-      → ((y : ℕ) → y < height → Keeps P (address + y * stride) (address + y * stride + 4 * width)) → P m → P (filled address stride width height color m)
-  unfolding filled
-  filled-keeps address stride width height color m keeps h =
-      after-keeps _ P height m (λ y m′ below. filled-row-keeps (address + y * stride) width color m′ (keeps y below)) h
-
-  pub copied-keeps : (to from words : ℕ) (m : List ℕ) → Keeps P to (to + 4 * words) → P m → P (copied to from words m)
-  unfolding copied
-  copied-keeps to from words m keeps h =
-      after-keeps _ P words m
-      (λ i m′ below. with-word-keeps m′ _ _ (keeps-within to (to + 4 * words) _ _ (omega arith) (omega arith) keeps))
-      h
-
-  pub blitted-keeps : (to from stride width height : ℕ) (m : List ℕ)
-      → ((y : ℕ) → y < height → Keeps P (to + y * stride) (to + y * stride + 4 * width)) → P m → P (blitted to from stride width height m)
-  unfolding blitted
-  blitted-keeps to from stride width height m keeps h =
-      after-keeps _ P height m (λ y m′ below. copied-keeps (to + y * stride) (from + y * stride) width m′ (keeps y below)) h
+  pub pixels-put-keeps : (address stride width height : ℕ) (pixel : ℕ → ℕ → ℕ) (m : List ℕ)
+      → ((y : ℕ) → y < height → Keeps P (address + y * stride) (address + y * stride + 4 * width)) → P m
+      → P (pixelsPut address stride width height pixel m)
+  unfolding pixelsPut
+  pixels-put-keeps address stride width height pixel m keeps h =
+      after-keeps _ P height m (λ y m′ below. words-put-keeps (address + y * stride) width (λ x. pixel x y) m′ (keeps y below)) h
 
   -- of a transfer each byte put is the source's
   pub transferred-keeps : (source : List ℕ) (start at n : ℕ) (m : List ℕ)

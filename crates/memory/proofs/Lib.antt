@@ -2,12 +2,15 @@ pub mod After
 pub mod Reach
 pub mod Places
 pub mod Rows
-pub mod Filled
-pub mod Copied
+pub mod Put
 pub mod Transferred
 pub mod Window
 pub mod Kept
 pub mod Lengths
 pub mod ByteSized
 pub mod Others
+pub mod Swaps
+pub mod Order
+pub mod Copied
 pub mod Pixels
+pub mod Sources

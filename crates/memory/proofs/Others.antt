@@ -12,7 +12,7 @@ use Rattle.memory.specs.declared.quad.Quad.{Quad}
 use Rattle.memory.specs.Place.{wordAt}
 use Rattle.memory.specs.Access.{bytesOf, storeOf}
 use Rattle.memory.specs.Quad.{storeQuadOf}
-use Rattle.memory.specs.Rectangle.{filled}
+use Rattle.memory.specs.Rectangle.{wordsPut, pixelsPut, filled}
 use Rattle.memory.specs.Copy.{copied, blitted}
 use Rattle.memory.specs.Transfer.{transferred}
 use Rattle.memory.proofs.Kept as kept
@@ -21,8 +21,12 @@ use Rattle.memory.proofs.Kept as kept
 abbrev pub Apart : ℕ → ℕ → ℕ → Type 0
 Apart i low high = (i < low) ⊎ (high ≤ i)
 
-apart-ne : (i low high j : ℕ) → Apart i low high → low ≤ j → j < high → i ≡ j → ⊥
+pub apart-ne : (i low high j : ℕ) → Apart i low high → low ≤ j → j < high → i ≡ j → ⊥
 apart-ne i low high j apart l u e = ⊎-elim (λ (h : i < low). omega arith) (λ (h : high ≤ i). omega arith) apart
+
+-- place i is in no row of a rectangle
+abbrev pub InNoRow : ℕ → ℕ → ℕ → ℕ → ℕ → Type 0
+InNoRow i address stride width height = (y : ℕ) → y < height → Apart i (address + y * stride) (address + y * stride + 4 * width)
 
 module _ (m : List ℕ) (i : ℕ) where
   -- byte i is as it was
@@ -38,18 +42,25 @@ module _ (m : List ℕ) (i : ℕ) where
   pub store-quad-other : (a : ℕ) (q : Quad) → Apart i a (a + 16) → Same (storeQuadOf m a q)
   store-quad-other a q apart = kept.store-quad-keeps Same m a q (keeps-other _ _ apart) refl
 
-  pub filled-other : (address stride width height color : ℕ)
-      → ((y : ℕ) → y < height → Apart i (address + y * stride) (address + y * stride + 4 * width)) → Same (filled address stride width height color m)
-  filled-other address stride width height color apart =
-      kept.filled-keeps Same address stride width height color m (λ y b. keeps-other _ _ (apart y b)) refl
+  pub words-put-other : (address count : ℕ) (word : ℕ → ℕ) → Apart i address (address + 4 * count) → Same (wordsPut address count word m)
+  words-put-other address count word apart = kept.words-put-keeps Same address count word m (keeps-other _ _ apart) refl
+
+  pub pixels-put-other : (address stride width height : ℕ) (pixel : ℕ → ℕ → ℕ) → InNoRow i address stride width height
+      → Same (pixelsPut address stride width height pixel m)
+  pixels-put-other address stride width height pixel apart =
+      kept.pixels-put-keeps Same address stride width height pixel m (λ y b. keeps-other _ _ (apart y b)) refl
+
+  pub filled-other : (address stride width height color : ℕ) → InNoRow i address stride width height → Same (filled address stride width height color m)
+  unfolding filled
+  filled-other address stride width height color apart = pixels-put-other address stride width height _ apart
 
   pub copied-other : (to from words : ℕ) → Apart i to (to + 4 * words) → Same (copied to from words m)
-  copied-other to from words apart = kept.copied-keeps Same to from words m (keeps-other _ _ apart) refl
+  unfolding copied
+  copied-other to from words apart = words-put-other to words _ apart
 
-  pub blitted-other : (to from stride width height : ℕ)
-      → ((y : ℕ) → y < height → Apart i (to + y * stride) (to + y * stride + 4 * width)) → Same (blitted to from stride width height m)
-  blitted-other to from stride width height apart =
-      kept.blitted-keeps Same to from stride width height m (λ y b. keeps-other _ _ (apart y b)) refl
+  pub blitted-other : (to from stride width height : ℕ) → InNoRow i to stride width height → Same (blitted to from stride width height m)
+  unfolding blitted
+  blitted-other to from stride width height apart = pixels-put-other to stride width height _ apart
 
   pub transferred-other : (source : List ℕ) (start at n : ℕ) → Apart i at (at + n) → Same (transferred source start at n m)
   transferred-other source start at n apart =

@@ -3,7 +3,7 @@
 use mathlib.Core.Path.{_≡_}
 use mathlib.Core.Bool.{false}
 use Prim.Native.Nat.{ℕ, _+_, _-_, _*_, _≤_, _<_, _^_}
-use native.Mathlib.Nat.{mul-le-mul-right}
+use native.Mathlib.Nat.{add-mul, one-mul, mul-le-mul-right}
 use native.Mathlib.Omega.{arith}
 use lib.Dec.{eqb}
 use mir.Syntax.{w64}
@@ -18,6 +18,12 @@ rectangle-end address stride width height hw hh =
     let w : eqb width 0 ≡ false = ne-eqb width 0 (λ e. omega arith) in
     let h : eqb height 0 ≡ false = ne-eqb height 0 (λ e. omega arith) in
     rw (w, h)
+
+-- rows that do not overlap: a later row starts after an earlier one ends
+pub row-after : (stride width y z : ℕ) → 4 * width ≤ stride → y < z → y * stride + 4 * width ≤ z * stride
+row-after stride width y z wide h =
+    let next : y + 1 ≤ z = omega arith in
+    omega (arith, add-mul y 1 stride, one-mul stride, mul-le-mul-right stride next)
 
 -- row y is no further than the last
 module _ (address stride width height y n : ℕ) (wide : 0 < width) (below : y < height) (inside : rectangleEnd address stride width height ≤ n) where

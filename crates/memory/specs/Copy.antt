@@ -1,13 +1,14 @@
--- Copies of words. Each word is read when its turn comes.
+-- Copies of words within a window, as if every source word had been read before any was written: each written word is the source's word
+-- in the window as it `was`.
 use mathlib.Core.List.{List}
 use Prim.Native.Nat.{ℕ, _+_, _*_}
-use Rattle.memory.specs.After.{after}
-use Rattle.memory.specs.Place.{wordAt, withWord}
+use Rattle.memory.specs.Place.{wordAt}
+use Rattle.memory.specs.Rectangle.{wordsPut, pixelsPut}
 
--- `words` words copied in rising order
+-- `words` words copied
 unfoldable pub copied : ℕ → ℕ → ℕ → List ℕ → List ℕ
-copied to from words = after (λ i m. withWord m (to + 4 * i) (wordAt m (from + 4 * i))) words
+copied to from words was = wordsPut to words (λ i. wordAt was (from + 4 * i)) was
 
--- a rectangle copied row by row from the top, each row from the left, with one stride for both sides
+-- a rectangle copied whose rows lie apart, with one stride for both sides
 unfoldable pub blitted : ℕ → ℕ → ℕ → ℕ → ℕ → List ℕ → List ℕ
-blitted to from stride width height = after (λ y. copied (to + y * stride) (from + y * stride) width) height
+blitted to from stride width height was = pixelsPut to stride width height (λ x y. wordAt was (from + y * stride + 4 * x)) was

@@ -2,12 +2,12 @@
 ghost use mathlib.Core.Path.{_≡_};
 ghost use Prim.Native.Nat.{_+_, _*_, _≤_};
 ghost use lib.ListN.{length};
-ghost use Rattle.memory.specs.Rectangle.{rectangleEnd, filledRow, filled};
+ghost use Rattle.memory.specs.Rectangle.{rectangleEnd, wordsPut, filled};
 use crate::place::put_word;
 
 fn fill_row(window: &mut [u8], address: usize, width: usize, color: u32)
     requires { ⌜ address + 4 * width ≤ length (now window) ⌝ }
-    ensures { λ _. ⌜ now (window .exit) ≡ filledRow address width color (now (window .entry)) ⌝ }
+    ensures { λ _. ⌜ now (window .exit) ≡ wordsPut address width (λ x. color) (now (window .entry)) ⌝ }
 {
     for x in 0..width {
         put_word(window, address + 4 * x, color);

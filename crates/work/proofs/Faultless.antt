@@ -37,13 +37,14 @@ payload-as-in-table c fine =
     let plain = cond-done (reservedBit (c .flags)) ReservedFlag _ refl known .1 in
     same-tests _ _ (cond-done (wrongPayloadBit c) WrongPayloadBit _ refl plain .0)
 
--- no byte is outside the window
-pub not-outside : (c : Command) (length : ℕ) (frame : Frame) (pack : List ℕ) → isDone (checkOf c length frame pack) ≡ true → outside c length frame ≡ false
+-- a rectangle has a frame that is wide enough, and no byte is outside the window
+pub framed-and-inside : (c : Command) (length : ℕ) (frame : Frame) (pack : List ℕ) → isDone (checkOf c length frame pack) ≡ true
+    → (unframed c frame ≡ false) × (outside c length frame ≡ false)
 unfolding checkOf
-not-outside c length frame pack fine =
+framed-and-inside c length frame pack fine =
     let aligned = cond-done (misaligned c) Misaligned _ refl fine .1 in
-    let framed = cond-done (unframed c frame) NoFrame _ refl aligned .1 in
-    cond-done (outside c length frame) OutsideTheWindow _ refl framed .0
+    let framed = cond-done (unframed c frame) NoFrame _ refl aligned in
+    (framed .0, cond-done (outside c length frame) OutsideTheWindow _ refl (framed .1) .0)
 
 module _ (c : Command) (full : Bool) (length : ℕ) (frame : Frame) (pack : List ℕ) (fine : isDone (faultOf c full length frame pack) ≡ true) where
   pub header-done : isDone (headerFault c) ≡ true

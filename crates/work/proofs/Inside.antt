@@ -1,18 +1,20 @@
 -- What the checks say of a command's bytes.
 -- Assumes nothing.
 use mathlib.Core.Path.{_≡_}
-use mathlib.Core.Bool.{Bool, true, false, _&&_, _||_}
+use mathlib.Core.Bool.{Bool, true, false, not, _&&_, _||_, true≢false}
 use Prim.Native.Nat.{ℕ, _+_, _*_, _≤_}
+use native.Mathlib.Omega.{arith}
 use lib.Dec.{eqb, ltb}
-use borrow.Author.Tests.{ltb-false}
-use Rattle.memory.specs.Rectangle.{rectangleEnd}
+use borrow.Author.Tests.{ltb-false, ne-eqb}
+use Rattle.memory.specs.Rectangle.{rectangleEnd, RowsApart}
 use Rattle.command.specs.declared.header.Command.{Command}
 use Rattle.command.specs.declared.frame.Frame.{Frame}
+use Rattle.command.specs.declared.frame.Frame.the-variants.{Unset, Held}
 use Rattle.command.specs.Opcode.{writeMem, readMem, fillRect, blit, copyBuffer, setFb}
 use Rattle.command.specs.Table.{rowOf}
 use Rattle.command.specs.Frame.{strideOf, frameOutside}
-use Rattle.work.specs.Shape.{isRectangle, widthOf, heightOf, endOf}
-use Rattle.work.specs.Checks.{outside}
+use Rattle.work.specs.Shape.{isRectangle, widthOf, heightOf, tooNarrow, endOf}
+use Rattle.work.specs.Checks.{unframed, outside}
 use Rattle.words.proofs.Choices.{neither-left, neither-right, not-both}
 
 module _ (c : Command) (frame : Frame) (address : ℕ) where
@@ -68,3 +70,16 @@ module _ (c : Command) (n : ℕ) (frame : Frame) (in-window : outside c n frame 
     rw (rectangle-ends c frame (c .arg0) (rw e)) at (inside0 (rw e)),
     rw (rectangle-ends c frame (c .arg1) (rw e)) at (inside1 (rw e)),
   )
+
+-- no row of a rectangle reaches into the next
+rows-apart : (frame : Frame) (width height : ℕ) → tooNarrow frame width height ≡ false → RowsApart (strideOf frame) width height
+unfolding tooNarrow RowsApart
+rows-apart Unset width height wide hw hh = absurd (true≢false wide)
+rows-apart (Held base stride format) width height wide hw hh =
+    let w : eqb width 0 ≡ false = ne-eqb width 0 (λ e. omega arith) in
+    let h : eqb height 0 ≡ false = ne-eqb height 0 (λ e. omega arith) in
+    ltb-false stride (4 * width) (not-both (not (eqb width 0) && not (eqb height 0)) (ltb stride (4 * width)) (rw (w, h)) wide)
+
+pub blit-rows-apart : (c : Command) (frame : Frame) → unframed c frame ≡ false → c .opcode ≡ blit → RowsApart (strideOf frame) (widthOf c) (heightOf c)
+unfolding unframed isRectangle
+blit-rows-apart c frame framed e = rows-apart frame (widthOf c) (heightOf c) (not-both (isRectangle (c .opcode)) _ (rw e) framed)

@@ -3,11 +3,11 @@ ghost use mathlib.Core.Path.{_≡_};
 ghost use mathlib.Core.Bool.{true, false};
 ghost use Prim.Native.Nat.{_+_, _*_, _≤_};
 ghost use lib.ListN.{length};
-ghost use Rattle.memory.specs.Rectangle.{rectangleEnd, filled};
+ghost use Rattle.memory.specs.Rectangle.{rectangleEnd, RowsApart, filled};
 ghost use Rattle.memory.specs.Copy.{blitted};
 ghost use Rattle.command.specs.Frame.{strideOf};
 ghost use Rattle.work.specs.Shape.{widthOf, heightOf};
-ghost use Rattle.work.specs.Checks.{outside};
+ghost use Rattle.work.specs.Checks.{unframed, outside};
 ghost use Rattle.command.specs.Table.{rowOf};
 ghost use Rattle.work.specs.Work.{Shows, withoutStop, heldBy, stopOutcome, ranOutcome, ranAs, dispatchedBy, workOf};
 use crate::shape::height;
@@ -85,7 +85,7 @@ fn fill_rect(command: Command, window: &mut [u8], frame: Frame)
 }
 
 fn blit_rect(command: Command, window: &mut [u8], frame: Frame)
-    requires { ⌜ (rectangleEnd (command .arg0) (strideOf frame) (widthOf command) (heightOf command) ≤ length (now window)) × (rectangleEnd (command .arg1) (strideOf frame) (widthOf command) (heightOf command) ≤ length (now window)) ⌝ }
+    requires { ⌜ (rectangleEnd (command .arg0) (strideOf frame) (widthOf command) (heightOf command) ≤ length (now window)) × (rectangleEnd (command .arg1) (strideOf frame) (widthOf command) (heightOf command) ≤ length (now window)) × RowsApart (strideOf frame) (widthOf command) (heightOf command) ⌝ }
     ensures { λ _. ⌜ now (window .exit) ≡ blitted (command .arg0) (command .arg1) (strideOf frame) (widthOf command) (heightOf command) (now (window .entry)) ⌝ }
 {
     let stride = stride_of(frame) as usize;
@@ -137,7 +137,7 @@ pub fn work(
     pipe: &mut [u8],
     limit: u32,
 ) -> Performed
-    requires { ⌜ (outside command (length (now window)) frame ≡ false) × (rowOf (command .opcode) .payload ≡ true → command .payload + 4 * command .len ≤ length (now ring)) × (1020 ≤ length (now pipe)) ⌝ }
+    requires { ⌜ (unframed command frame ≡ false) × (outside command (length (now window)) frame ≡ false) × (rowOf (command .opcode) .payload ≡ true → command .payload + 4 * command .len ≤ length (now ring)) × (1020 ≤ length (now pipe)) ⌝ }
     ensures { λ r. ⌜ Shows r (now (window .exit)) (now (pipe .exit)) (workOf command (now (ring .entry)) (now (window .entry)) frame (now (pack .entry)) (now (pipe .entry)) limit) ⌝ }
 {
     let done = Performed::without_stop(Outcome::Done, frame);

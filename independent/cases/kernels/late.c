@@ -200,16 +200,20 @@ static void emit_off_the_end(struct maker *m, uint32_t steps, uint32_t limit)
         emit(m, table[ROW_MEMBAR].match);
 }
 
-/* The chosen thread's branch leads over the end of all others. */
+/* The chosen thread's branch leads over the end of all others, and now and then
+ * over words of none, to a place far on. */
 static void emit_stop(struct maker *m, uint32_t limit)
 {
     uint32_t steps = m->words + 1, others = below(m->c, 3);
+    uint32_t none = mille(m->c, 12) ? 128 + below(m->c, 8) : 0;
     uint32_t x = below(m->c, 100);
 
-    emit(m, word_b(ROW_BEQ, S_MINE, S_OTHER, 4 * (int32_t)(others + 2)));
+    emit(m, word_b(ROW_BEQ, S_MINE, S_OTHER, 4 * (int32_t)(others + 2 + none)));
     for (; others > 0; others--)
         emit(m, table[ROW_MEMBAR].match);
     emit(m, table[ROW_WFI].match);
+    for (; none > 0; none--)
+        emit(m, 0);
     if (x >= 79 && limit > LIMIT_QUARTER && !mille(m->c, 100))
         x = 0; /* it takes too long */
     if (x < 12) {

@@ -1,33 +1,36 @@
 -- `memory::copy::copy` meets its contract. Assumes nothing.
-use mathlib.Core.Path.{_≡_, refl, sym}
+use mathlib.Core.Path.{_≡_, refl, sym, ap, _∙_}
 use Prim.Native.Nat.{_≤_, _-_}
 use native.Mathlib.Omega.{arith}
 use lib.ListN.{length}
-use Rattle.memory.specs.Copy.{copied}
-use Rattle.memory.proofs.Copied.{copied-none, copied-more}
+use denote.Ref.{now}
+use Rattle.memory.proofs.After.{after-none}
+use Rattle.memory.proofs.Order.{ordered}
+use Rattle.memory.proofs.Copied.{wordPut, word-turn, word-turns}
 use Rattle.memory.proofs.copy.copy.Statement.{statement}
 use Rattle.memory.proofs.copy.copy.Tie as tie
 
 abbrev Inv-loop : tie.InvT-loop
-Inv-loop window₀ to from words i₀ window i = (i ≤ words) × (length window ≡ length window₀) × (window ≡ copied to from i window₀)
+Inv-loop window₀ to from words i₀ window i =
+    (i ≤ words) × (length window ≡ length window₀) × (window ≡ ordered to from words (wordPut to from window₀) i window₀)
 
 abbrev μ-loop : tie.MeasureT-loop
 μ-loop window₀ to from words i₀ window i = words - i
 
 loop-holds : tie.Need-loop-holds Inv-loop μ-loop
-loop-holds c = (omega arith, refl, sym (copied-none _ _ _))
+loop-holds c = (omega arith, refl, sym (after-none _ _))
 
-mul-word-at : tie.Need-mul-word-at Inv-loop μ-loop
-mul-word-at c = omega arith
+at-turn-requires : tie.Need-at-turn-requires Inv-loop μ-loop
+at-turn-requires c κs = omega arith
+
+mul-at : tie.Need-mul-at Inv-loop μ-loop
+mul-at c = omega arith
 
 add-word-at : tie.Need-add-word-at Inv-loop μ-loop
 add-word-at c = omega arith
 
 word-at-requires : tie.Need-word-at-requires Inv-loop μ-loop
 word-at-requires c κs = omega arith
-
-mul-put-word : tie.Need-mul-put-word Inv-loop μ-loop
-mul-put-word c = omega arith
 
 add-put-word : tie.Need-add-put-word Inv-loop μ-loop
 add-put-word c = omega arith
@@ -43,17 +46,25 @@ loop-less c = omega arith
 
 loop-again : tie.Need-loop-again Inv-loop μ-loop
 loop-again c =
-    let turn = c .before .before .before .before .before .before .before .loop in
-    let word = c .before .before .before .before .word-at in
-    (omega arith, omega arith, rw (copied-more, ← turn .inv .2, ← word .ensures) (c .before .before .put-word .ensures))
+    let a = c .before .before .before .before .before .before .before .before .before .before .args in
+    let turn = c .before .before .before .before .before .before .before .before .loop in (
+      omega arith,
+      omega arith,
+      c .before .before .put-word .ensures
+          ∙ word-turn (a .to) (a .from) (a .words) (now (a .window)) (turn .i) _ _ (turn .window) (omega arith)
+          (c .before .before .before .before .before .before .at-turn .ensures .0) (turn .inv .2) (c .before .before .before .before .word-at .ensures),
+    )
 
 same-length : tie.Need-same-length Inv-loop μ-loop
 same-length c = c .before .loop .inv .1
 
 returns : tie.Need-returns Inv-loop μ-loop
 returns c =
-    let all : c .before .loop .i ≡ c .before .before .before .args .words = omega arith in
-    rw (← all) (c .before .loop .inv .2)
+    let a = c .before .before .before .args in
+    let all : c .before .loop .i ≡ a .words = omega arith in
+    c .before .loop .inv .2
+    ∙ ap (λ i. ordered (a .to) (a .from) (a .words) (wordPut (a .to) (a .from) (now (a .window))) i (now (a .window))) all
+    ∙ word-turns (a .to) (a .from) (a .words) (now (a .window))
 
 pub copy-spec : {M : Type 1} → statement M
 copy-spec =
@@ -62,10 +73,10 @@ copy-spec =
     Inv-loop
     μ-loop
     loop-holds
-    mul-word-at
+    at-turn-requires
+    mul-at
     add-word-at
     word-at-requires
-    mul-put-word
     add-put-word
     put-word-requires
     add-i

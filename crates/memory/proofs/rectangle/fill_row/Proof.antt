@@ -1,22 +1,21 @@
 -- `memory::rectangle::fill_row` meets its contract. Assumes nothing.
 use mathlib.Core.Path.{_≡_, refl, sym}
-use mathlib.Core.Path.{_≡_, sym}
 use Prim.Native.Nat.{_≤_, _-_}
 use native.Mathlib.Omega.{arith}
 use lib.ListN.{length}
-use Rattle.memory.specs.Rectangle.{filledRow}
-use Rattle.memory.proofs.Filled.{filled-row-none, filled-row-more}
+use Rattle.memory.specs.Rectangle.{wordsPut}
+use Rattle.memory.proofs.Put.{words-put-none, words-put-more}
 use Rattle.memory.proofs.rectangle.fill_row.Statement.{statement}
 use Rattle.memory.proofs.rectangle.fill_row.Tie as tie
 
 abbrev Inv-loop : tie.InvT-loop
-Inv-loop window₀ address width color x₀ window x = (x ≤ width) × (length window ≡ length window₀) × (window ≡ filledRow address x color window₀)
+Inv-loop window₀ address width color x₀ window x = (x ≤ width) × (length window ≡ length window₀) × (window ≡ wordsPut address x (λ i. color) window₀)
 
 abbrev μ-loop : tie.MeasureT-loop
 μ-loop window₀ address width color x₀ window x = width - x
 
 loop-holds : tie.Need-loop-holds Inv-loop μ-loop
-loop-holds c = (omega arith, refl, sym (filled-row-none _ _ _))
+loop-holds c = (omega arith, refl, sym (words-put-none _ _ _))
 
 mul-put-word : tie.Need-mul-put-word Inv-loop μ-loop
 mul-put-word c = omega arith
@@ -36,7 +35,7 @@ loop-less c = omega arith
 loop-again : tie.Need-loop-again Inv-loop μ-loop
 loop-again c =
     let turn = c .before .before .before .before .before .loop in
-    (omega arith, omega arith, rw (filled-row-more, ← turn .inv .2) (c .before .before .put-word .ensures))
+    (omega arith, omega arith, rw (words-put-more, ← turn .inv .2) (c .before .before .put-word .ensures))
 
 same-length : tie.Need-same-length Inv-loop μ-loop
 same-length c = c .before .loop .inv .1

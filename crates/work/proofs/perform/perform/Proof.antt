@@ -3,7 +3,7 @@ use denote.Ref.{now}
 use lib.ListN.{length}
 use mathlib.Core.Path.{_∙_, refl}
 use Rattle.work.specs.Work.{leaves}
-use Rattle.work.proofs.Faultless.{payload-as-in-table, not-outside, header-done, check-done}
+use Rattle.work.proofs.Faultless.{payload-as-in-table, framed-and-inside, header-done, check-done}
 use Rattle.work.proofs.Performs.{performed-work, performed-fault}
 use borrow.Author.Needs.{needs}
 use Rattle.work.proofs.perform.perform.Statement.{statement}
@@ -20,8 +20,10 @@ work-requires c κs =
     let a = c .before .before .before .before .before .before .before .before .before .args in
     let lent = c .before .before .before .before .before .before .before .before .before .pre in
     let fine = rw (c .before .before .before .is-done .ensures, c .before .before .before .before .fault .ensures) at (c .before .before .if1 .taken) in
+    let checked = framed-and-inside (a .command) (length (now (a .window))) (a .frame) (now (a .pack)) (check-done (a .command) (a .full) (length (now (a .window))) (a .frame) (now (a .pack)) fine) in
     let payload = payload-as-in-table (a .command) (header-done (a .command) (a .full) (length (now (a .window))) (a .frame) (now (a .pack)) fine) in (
-      not-outside (a .command) (length (now (a .window))) (a .frame) (now (a .pack)) (check-done (a .command) (a .full) (length (now (a .window))) (a .frame) (now (a .pack)) fine),
+      checked .0,
+      checked .1,
       (λ set. lent .payload (payload ∙ set)),
       lent .room,
     )

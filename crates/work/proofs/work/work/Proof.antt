@@ -7,7 +7,7 @@ use Rattle.command.specs.Table.{rowOf}
 use Rattle.work.specs.Work.{leaves, afterDispatch}
 use denote.Ref.{now}
 use lib.ListN.{length}
-use Rattle.work.proofs.Inside.{write-inside, read-inside, copy-inside, fill-inside, blit-inside}
+use Rattle.work.proofs.Inside.{write-inside, read-inside, copy-inside, fill-inside, blit-inside, blit-rows-apart}
 use borrow.Author.Needs.{needs}
 use Rattle.work.proofs.work.work.Statement.{statement}
 use Rattle.work.proofs.work.work.Tie as tie
@@ -25,23 +25,24 @@ write-words-requires : tie.Need-write-words-requires
 unfolding rowOf
 write-words-requires c κs =
     let a = c .before .before .before .before .before .before .before .before .before .args in
-    (write-inside (a .command) (length (now (a .window))) (a .frame) (c .before .before .before .before .before .before .before .before .before .pre .0) (c .before .match .keys1), c .before .before .before .before .before .before .before .before .before .pre .1 (rw (c .before .match .keys1)))
+    (write-inside (a .command) (length (now (a .window))) (a .frame) (c .before .before .before .before .before .before .before .before .before .pre .1) (c .before .match .keys1), c .before .before .before .before .before .before .before .before .before .pre .2 (rw (c .before .match .keys1)))
 
 read-words-requires : tie.Need-read-words-requires
 read-words-requires c κs =
     let a = c .before .before .before .before .before .before .before .before .before .before .args in
-    let in-window = read-inside (a .command) (length (now (a .window))) (a .frame) (c .before .before .before .before .before .before .before .before .before .before .pre .0) (c .before .before .match .keys2) in
-    (in-window, omega (arith, c .before .before .before .before .before .before .before .before .before .before .pre .2, c .before .before .before .struct-known2 .given))
+    let in-window = read-inside (a .command) (length (now (a .window))) (a .frame) (c .before .before .before .before .before .before .before .before .before .before .pre .1) (c .before .before .match .keys2) in
+    (in-window, omega (arith, c .before .before .before .before .before .before .before .before .before .before .pre .3, c .before .before .before .struct-known2 .given))
 
 fill-rect-requires : tie.Need-fill-rect-requires
 fill-rect-requires c κs =
     let a = c .before .before .before .before .before .before .before .before .before .args in
-    fill-inside (a .command) (length (now (a .window))) (a .frame) (c .before .before .before .before .before .before .before .before .before .pre .0) (c .before .match .keys3)
+    fill-inside (a .command) (length (now (a .window))) (a .frame) (c .before .before .before .before .before .before .before .before .before .pre .1) (c .before .match .keys3)
 
 blit-rect-requires : tie.Need-blit-rect-requires
 blit-rect-requires c κs =
     let a = c .before .before .before .before .before .before .before .before .before .args in
-    blit-inside (a .command) (length (now (a .window))) (a .frame) (c .before .before .before .before .before .before .before .before .before .pre .0) (c .before .match .keys4)
+    let in-window = blit-inside (a .command) (length (now (a .window))) (a .frame) (c .before .before .before .before .before .before .before .before .before .pre .1) (c .before .match .keys4) in
+    (in-window .0, in-window .1, blit-rows-apart (a .command) (a .frame) (c .before .before .before .before .before .before .before .before .before .pre .0) (c .before .match .keys4))
 
 cast-copy : tie.Need-cast-copy
 cast-copy c = search needs
@@ -49,7 +50,7 @@ cast-copy c = search needs
 copy-requires : tie.Need-copy-requires
 copy-requires c κs =
     let a = c .before .before .before .before .before .before .before .before .before .before .args in
-    copy-inside (a .command) (length (now (a .window))) (a .frame) (c .before .before .before .before .before .before .before .before .before .before .pre .0) (c .before .before .match .keys5)
+    copy-inside (a .command) (length (now (a .window))) (a .frame) (c .before .before .before .before .before .before .before .before .before .before .pre .1) (c .before .before .match .keys5)
 
 run-requires : tie.Need-run-requires
 run-requires c κs = search needs
