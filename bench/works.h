@@ -18,8 +18,14 @@ void queue_idle(struct scene *scene, uint32_t turns);
 void queue_waiting(struct scene *scene, uint32_t turns);
 void queue_barriers(struct scene *scene, uint32_t commands);
 /* transfers.c */
-void queue_copies(struct scene *scene, uint32_t commands);
-void queue_blit(struct scene *scene, uint32_t rows);
+void queue_copies_to_lower(struct scene *scene, uint32_t commands);
+void queue_copies_to_higher(struct scene *scene, uint32_t commands);
+void queue_copies_word_lower(struct scene *scene, uint32_t commands);
+void queue_copies_word_higher(struct scene *scene, uint32_t commands);
+void queue_blit_to_lower(struct scene *scene, uint32_t rows);
+void queue_blit_to_higher(struct scene *scene, uint32_t rows);
+void queue_blit_row_down(struct scene *scene, uint32_t rows);
+void queue_blit_pixel_right(struct scene *scene, uint32_t rows);
 void queue_fill(struct scene *scene, uint32_t rows);
 /* kernels.c */
 void queue_alu(struct scene *scene, uint32_t threads);
