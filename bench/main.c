@@ -34,7 +34,7 @@ static const struct work works[] = {
     {"BLIT of 512 pixels a row, to lower", "word", ROW_PIXELS, MEMORY_ROWS / 2, 64, queue_blit_to_lower},
     {"BLIT of 512 pixels a row, to higher", "word", ROW_PIXELS, MEMORY_ROWS / 2, 64, queue_blit_to_higher},
     {"BLIT of 512 pixels a row, a row down", "word", ROW_PIXELS, MEMORY_ROWS / 2, 64, queue_blit_row_down},
-    {"BLIT of 512 pixels a row, a pixel right", "word", ROW_PIXELS, MEMORY_ROWS / 2, 64, queue_blit_pixel_right},
+    {"BLIT of 512 pixels a row, a pixel on", "word", ROW_PIXELS, MEMORY_ROWS / 2, 64, queue_blit_pixel_on},
     {"FILL_RECT of 512 pixels a row", "word", ROW_PIXELS, MEMORY_ROWS, 64, queue_fill},
     {"ALU kernel", "step", THREAD_STEPS, THREADS, 4, queue_alu},
     {"memory kernel", "step", THREAD_STEPS, THREADS, 4, queue_memory},

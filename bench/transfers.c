@@ -1,11 +1,11 @@
 /* Bytes moved in a window of 1 MiB. */
 #include "works.h"
 
-/* Copies of the most words, each a place further on than the one before. */
+/* Copies of the most words, each behind the one before. */
 static void queue_copies(struct scene *scene, uint32_t to, uint32_t from, uint32_t commands)
 {
     for (uint32_t i = 0; i < commands; i++) {
-        uint32_t at = i * 4 * FV_LEN_MOST % (SCENE_HALF - 8 * FV_LEN_MOST);
+        uint32_t at = i * 4 * FV_LEN_MOST % (SCENE_HALF - 4 * FV_LEN_MOST);
         need(fv_copy_buffer(&scene->lent.rings[0], fv_none(), to + at, from + at, FV_LEN_MOST), "a ring has no room");
     }
     scene->turns = commands;
@@ -53,7 +53,7 @@ void queue_blit_row_down(struct scene *scene, uint32_t rows)
     queue_blit(scene, SCENE_STRIDE, 0, rows);
 }
 
-void queue_blit_pixel_right(struct scene *scene, uint32_t rows)
+void queue_blit_pixel_on(struct scene *scene, uint32_t rows)
 {
     queue_blit(scene, 4, 0, rows);
 }

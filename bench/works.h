@@ -25,7 +25,7 @@ void queue_copies_word_higher(struct scene *scene, uint32_t commands);
 void queue_blit_to_lower(struct scene *scene, uint32_t rows);
 void queue_blit_to_higher(struct scene *scene, uint32_t rows);
 void queue_blit_row_down(struct scene *scene, uint32_t rows);
-void queue_blit_pixel_right(struct scene *scene, uint32_t rows);
+void queue_blit_pixel_on(struct scene *scene, uint32_t rows);
 void queue_fill(struct scene *scene, uint32_t rows);
 /* kernels.c */
 void queue_alu(struct scene *scene, uint32_t threads);

@@ -19,8 +19,8 @@ struct order {
 struct sides sides_of(const struct ind_command *command,
                       const struct ind_frame *frame);
 
-/* Whether there is a word between the first and the last of both sides, one of
- * theirs or one between their rows. No side is empty. */
+/* Whether the two spans, each from a side's first word to its last, share a
+ * word. No side is empty. */
 int spans_meet(const struct sides *sides);
 
 /* Each word is read when its turn comes, so the order may show. Both sides lie

@@ -16,31 +16,25 @@ enum {
 
 /* A dispatch that ran, once more. */
 struct again {
-    struct ind_ring ring;
-    struct ind_command command;
+    struct taken taken;
     struct ind_kernel kernel;
     struct trace trace;
-    struct ind_report report;
-    uint32_t limit;
 };
 
 /* On the memory before, which it changes. */
 static struct again run_again(const struct turned *t)
 {
-    struct taken taken = taken_by(t);
-    struct again again = {
-        .ring = taken.ring, .command = taken.command, .report = taken.report,
-        .limit = taken.limit
-    };
+    struct again again = { .taken = taken_by(t) };
+    const struct taken *taken = &again.taken;
     const struct ind_window window = {
-        memory_before, again.ring.window_start, again.ring.window_length
+        memory_before, taken->ring.window_start, taken->ring.window_length
     };
 
-    if (!ind_kernel_extent(t->pack, t->pack_len, again.command.arg2,
+    if (!ind_kernel_extent(t->pack, t->pack_len, taken->command.arg2,
                            &again.kernel))
         abort();
-    trace_dispatch(&again.trace, &again.kernel, &window, &again.command,
-                   again.limit);
+    trace_dispatch(&again.trace, &again.kernel, &window, &taken->command,
+                   taken->limit);
     return again;
 }
 
@@ -49,7 +43,7 @@ static struct again run_again(const struct turned *t)
 /* Of an access that starts inside. */
 static uint32_t wrong_across(const struct again *a, const struct access *access)
 {
-    uint32_t length = a->ring.window_length;
+    uint32_t length = a->taken.ring.window_length;
     int stores = access->instruction.kind == KIND_STORE
         || access->instruction.kind == KIND_VST;
 
@@ -78,7 +72,8 @@ static uint32_t wrong_across(const struct again *a, const struct access *access)
 static uint32_t wrong_address(const struct again *a)
 {
     struct access access = trace_access(&a->trace, &a->kernel);
-    uint32_t told = a->report.stop.address, length = a->ring.window_length;
+    uint32_t told = a->taken.report.stop.address;
+    uint32_t length = a->taken.ring.window_length;
 
     if (access.address < length)
         told = wrong_across(a, &access);
@@ -87,7 +82,7 @@ static uint32_t wrong_address(const struct again *a)
     if (MUTANT == 99) /* always the window's length */
         return length;
     if (MUTANT == 100) /* from the memory's start */
-        return told + a->ring.window_start;
+        return told + a->taken.ring.window_start;
     if (MUTANT == 101 && length == 0)
         return 0;
     if (MUTANT == 102) /* as far as a memory can be */
@@ -100,15 +95,15 @@ static uint32_t wrong_address(const struct again *a)
 /* The address with another outcome than 13. */
 static uint32_t address_though_none(const struct again *a)
 {
-    uint32_t place = a->report.stop.place;
+    uint32_t place = a->taken.report.stop.place;
 
-    switch (a->report.outcome) {
+    switch (a->taken.report.outcome) {
     case IND_NOT_LISTED: /* the word */
         return MUTANT == 104 ? ind_get(a->kernel.code + place, WORD) : 0;
     case IND_BAD_PLACE:
         return MUTANT == 105 ? place : 0;
     default: /* the steps */
-        return MUTANT == 106 ? a->limit : 0;
+        return MUTANT == 106 ? a->taken.limit : 0;
     }
 }
 
@@ -117,15 +112,15 @@ static uint32_t address_though_none(const struct again *a)
 /* Where a taken branch leads. */
 static uint32_t branch_target(const struct again *a)
 {
-    uint32_t place = a->report.stop.place;
+    uint32_t place = a->taken.report.stop.place;
 
     return place + ind_decode(ind_get(a->kernel.code + place, WORD)).imm;
 }
 
 static uint32_t wrong_place(const struct again *a)
 {
-    uint32_t place = a->report.stop.place, end = WORD * a->kernel.words;
-    uint32_t outcome = a->report.outcome;
+    uint32_t place = a->taken.report.stop.place, end = WORD * a->kernel.words;
+    uint32_t outcome = a->taken.report.outcome;
     int spent = outcome == IND_STEPS_SPENT;
 
     switch (MUTANT) {
@@ -154,7 +149,7 @@ static uint32_t wrong_place(const struct again *a)
 static void err_thread(struct again *a)
 {
     const struct ind_thread *last = &a->trace.last;
-    struct ind_stop *stop = &a->report.stop;
+    struct ind_stop *stop = &a->taken.report.stop;
     uint32_t group = stop->group, thread = stop->thread;
 
     switch (MUTANT) {
@@ -163,7 +158,7 @@ static void err_thread(struct again *a)
         stop->thread = group;
         break;
     case 115: /* counted through the dispatch */
-        stop->thread = group * a->command.arg1 + thread;
+        stop->thread = group * a->taken.command.arg1 + thread;
         break;
     case 116: /* what the registers hold */
         stop->group = last->scalar[1];
@@ -174,7 +169,7 @@ static void err_thread(struct again *a)
         stop->thread++;
         break;
     case 118: /* with 13 alone */
-        if (a->report.outcome != IND_BAD_ACCESS)
+        if (a->taken.report.outcome != IND_BAD_ACCESS)
             stop->group = stop->thread = 0;
         break;
     default:
@@ -185,13 +180,13 @@ static void err_thread(struct again *a)
 static void err_stopped(struct turned *t)
 {
     struct again again = run_again(t);
-    struct ind_stop *stop = &again.report.stop;
+    struct ind_stop *stop = &again.taken.report.stop;
 
-    stop->address = again.report.outcome == IND_BAD_ACCESS
+    stop->address = again.taken.report.outcome == IND_BAD_ACCESS
         ? wrong_address(&again) : address_though_none(&again);
     stop->place = wrong_place(&again);
     err_thread(&again);
-    ind_report_encode(&again.report, t->report);
+    ind_report_encode(&again.taken.report, t->report);
 }
 
 /* ---- no stop ---- */
@@ -200,15 +195,15 @@ static void err_stopped(struct turned *t)
 static void err_done(struct turned *t)
 {
     struct again again = run_again(t);
-    struct ind_stop *stop = &again.report.stop;
+    struct ind_stop *stop = &again.taken.report.stop;
 
     if (MUTANT == 119) {
-        stop->group = again.command.arg0 - 1;
-        stop->thread = again.command.arg1 - 1;
+        stop->group = again.taken.command.arg0 - 1;
+        stop->thread = again.taken.command.arg1 - 1;
     }
     if (MUTANT == 120)
         stop->place = again.trace.last.place;
-    ind_report_encode(&again.report, t->report);
+    ind_report_encode(&again.taken.report, t->report);
 }
 
 static int ran(const struct turned *t)

@@ -185,7 +185,7 @@ pub record WhereStopped : Type 0 where
 abbrev pub blitFrom0 : ℕ → ℕ → ℕ → List ℕ → Call
 blitFrom0 to width height pixels = lentOver (bytesOfWords pixels) (header 0x11 0 0 0 to 0 (width + height * 2 ^ 16)) [] [] []
 
--- COPY_BUFFER of len words from 0 to `to`
+-- COPY_BUFFER of len words from 0 to `to`, in the same
 abbrev pub copyFrom0 : ℕ → ℕ → List ℕ → Call
 copyFrom0 to len pixels = lentOver (bytesOfWords pixels) (header 0x23 0 0 len to 0 0) [] [] []
 
@@ -224,7 +224,7 @@ pub record Scrolled : Type 0 where
       ∷ 31 ∷ 21 ∷ 22 ∷ 23
       ∷ 41 ∷ 31 ∷ 32 ∷ 33 ∷ [])
       (turnOf (framed 64 0) (blitFrom0 20 3 3 picture))
-  -- BLIT of three rows, two pixels on: each row is written across two of the source's
+  -- BLIT of three rows, two pixels on: each is written across two rows of the frame
   pub across : LeavesPixels
       (11 ∷ 12 ∷ 11 ∷ 12
       ∷ 13 ∷ 14 ∷ 21 ∷ 22

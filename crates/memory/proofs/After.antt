@@ -70,14 +70,15 @@ after-agree f g (suc n) m same =
     rw (after-agree f g n m (λ i x b. same i x (omega arith))) (same n (after g n m) (omega arith))
 
 module _ {A : Type 0} (f : ℕ → A → A) where
-  -- what may be swapped with each turn may come before them all
+  -- what may be swapped with each turn may be swapped with all of them
   pub after-swap : (g : A → A) (n : ℕ) (m : A) → ((i : ℕ) (x : A) → i < n → f i (g x) ≡ g (f i x)) → after f n (g m) ≡ g (after f n m)
   unfolding after
   after-swap g zero m swap = refl
   after-swap g (suc n) m swap = ap (f n) (after-swap g n m (λ i x b. swap i x (omega arith))) ∙ swap n (after f n m) (omega arith)
 
   -- turns that may be swapped with one another give the same in falling order
-  pub after-falling : (n : ℕ) (m : A) → ((i j : ℕ) (x : A) → i < j → j < n → f i (f j x) ≡ f j (f i x)) → after (λ i. f (n - 1 - i)) n m ≡ after f n m
+  pub after-falling : (n : ℕ) (m : A) → ((i j : ℕ) (x : A) → i < j → j < n → f i (f j x) ≡ f j (f i x))
+      → after (λ i. f (n - 1 - i)) n m ≡ after f n m
   unfolding after
   after-falling zero m swap = refl
   after-falling (suc n) m swap =

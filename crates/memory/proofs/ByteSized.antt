@@ -36,10 +36,10 @@ module _ (m : List ℕ) (bytes : Bytes m) where
   pub store-quad-bytes : (a : ℕ) (q : Quad) → Bytes (storeQuadOf m a q)
   store-quad-bytes a q = kept.store-quad-keeps Bytes m a q (keeps _ _) bytes
 
-  pub words-put-bytes : (address count : ℕ) (word : ℕ → ℕ) → Bytes (wordsPut address count word m)
+  words-put-bytes : (address count : ℕ) (word : ℕ → ℕ) → Bytes (wordsPut address count word m)
   words-put-bytes address count word = kept.words-put-keeps Bytes address count word m (keeps _ _) bytes
 
-  pub pixels-put-bytes : (address stride width height : ℕ) (pixel : ℕ → ℕ → ℕ) → Bytes (pixelsPut address stride width height pixel m)
+  pixels-put-bytes : (address stride width height : ℕ) (pixel : ℕ → ℕ → ℕ) → Bytes (pixelsPut address stride width height pixel m)
   pixels-put-bytes address stride width height pixel = kept.pixels-put-keeps Bytes address stride width height pixel m (λ y b. keeps _ _) bytes
 
   pub filled-bytes : (address stride width height color : ℕ) → Bytes (filled address stride width height color m)

@@ -10,7 +10,7 @@ use Rattle.memory.specs.Rectangle.{RowsApart, wordsPut, pixelsPut}
 use Rattle.memory.specs.Copy.{copied, blitted}
 use Rattle.memory.proofs.After.{after-more}
 use Rattle.memory.proofs.Rows.{row-after}
-use Rattle.memory.proofs.Put.{words-put-agree, pixels-put-empty}
+use Rattle.memory.proofs.Put.{words-put-agree}
 use Rattle.memory.proofs.Kept.{with-word-keeps, words-put-keeps}
 use Rattle.memory.proofs.Swaps.{with-word-swap, words-put-swap}
 use Rattle.memory.proofs.Order.{atTurn, ordered, ordered-all, source-kept}
@@ -36,10 +36,6 @@ module _ (to from words : ℕ) (m : List ℕ) where
       kept =
           source-kept to from words 4 (λ j. 4 * j) (λ j l less in-words. omega arith)
           (wordPut to from m) (λ P j z keeps h. with-word-keeps P z _ _ keeps h) i _ m below (omega arith) (omega arith)
-
-pub blitted-empty : (to from stride height : ℕ) (m : List ℕ) → blitted to from stride 0 height m ≡ m
-unfolding blitted
-blitted-empty to from stride height m = pixels-put-empty to stride height _ m
 
 module _ (to from stride width height : ℕ) (m : List ℕ) (some : 0 < width) (apart : RowsApart stride width height) where
   wide : 0 < height → 4 * width ≤ stride

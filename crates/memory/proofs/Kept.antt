@@ -1,4 +1,4 @@
--- What putting a byte keeps, every store, row, rectangle and transfer keeps.
+-- What putting a byte keeps, every store, row of words, rectangle of pixels and transfer keeps.
 -- Assumes nothing.
 use mathlib.Core.List.{List}
 use Prim.Native.Nat.{ℕ, _+_, _*_, _≤_, _<_, _^_}
@@ -75,7 +75,8 @@ module _ (P : List ℕ → Type 0) where
   unfolding storeQuadOf
   store-quad-keeps m a q keeps h = if-inside-keeps P (reachOf (length m) a 16) _ _ (with-quad-keeps m a q keeps h) h
 
-  pub words-put-keeps : (address count : ℕ) (word : ℕ → ℕ) (m : List ℕ) → Keeps P address (address + 4 * count) → P m → P (wordsPut address count word m)
+  pub words-put-keeps : (address count : ℕ) (word : ℕ → ℕ) (m : List ℕ) → Keeps P address (address + 4 * count) → P m
+      → P (wordsPut address count word m)
   unfolding wordsPut
   words-put-keeps address count word m keeps h =
       after-keeps _ P count m

@@ -13,4 +13,4 @@ pub mod Swaps
 pub mod Order
 pub mod Copied
 pub mod Pixels
-pub mod Sources
+pub mod Overlaps

@@ -15,7 +15,7 @@ use Rattle.memory.proofs.After.{after-keeps, after-falling}
 use Rattle.memory.proofs.Kept.{Keeps}
 use Rattle.memory.proofs.Others.{keeps-word}
 
--- which of n comes at turn i
+-- which of n comes at turn i, as the code's `at_turn` gives it
 abbrev pub atTurn : ℕ → ℕ → ℕ → ℕ → ℕ
 atTurn to from n i = cond (ltb from to) (n - 1 - i) i
 
@@ -26,7 +26,7 @@ ordered to from n f k = after (λ i. f (atTurn to from n i)) k
 -- in the end the order does not matter, if turns may be swapped
 pub ordered-all : {A : Type 0} (to from n : ℕ) (f : ℕ → A → A) (m : A)
     → ((i j : ℕ) (x : A) → i < j → j < n → f i (f j x) ≡ f j (f i x)) → ordered to from n f n m ≡ after f n m
-ordered-all {A = A} to from n f m swap = go (ltb from to)
+ordered-all to from n f m swap = go (ltb from to)
   where
     go : (falling : Bool) → after (λ i. f (cond falling (n - 1 - i) i)) n m ≡ after f n m
     go true = after-falling f n m swap
@@ -46,7 +46,7 @@ module _ (to from n size : ℕ) (offset : ℕ → ℕ) (rises : (k l : ℕ) → 
       go true higher lower = inl (omega (arith, higher refl, rises (n - 1 - i) (n - 1 - j) (omega arith) (omega arith)))
       go false higher lower = inr (omega (arith, lower refl, rises j i before below))
 
-  -- a word that turn i reads is still as it was
+  -- if each turn changes its own bytes alone, a word that turn i reads is still as it was
   pub source-kept : (f : ℕ → List ℕ → List ℕ)
       → ((P : List ℕ → Type 0) (k : ℕ) (x : List ℕ) → Keeps P (to + offset k) (to + offset k + size) → P x → P (f k x))
       → (i a : ℕ) (m : List ℕ) → i < n → from + offset (atTurn to from n i) ≤ a → a + 4 ≤ from + offset (atTurn to from n i) + size

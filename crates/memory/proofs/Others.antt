@@ -21,7 +21,7 @@ use Rattle.memory.proofs.Kept as kept
 abbrev pub Apart : ℕ → ℕ → ℕ → Type 0
 Apart i low high = (i < low) ⊎ (high ≤ i)
 
-pub apart-ne : (i low high j : ℕ) → Apart i low high → low ≤ j → j < high → i ≡ j → ⊥
+apart-ne : (i low high j : ℕ) → Apart i low high → low ≤ j → j < high → i ≡ j → ⊥
 apart-ne i low high j apart l u e = ⊎-elim (λ (h : i < low). omega arith) (λ (h : high ≤ i). omega arith) apart
 
 -- place i is in no row of a rectangle
@@ -42,7 +42,7 @@ module _ (m : List ℕ) (i : ℕ) where
   pub store-quad-other : (a : ℕ) (q : Quad) → Apart i a (a + 16) → Same (storeQuadOf m a q)
   store-quad-other a q apart = kept.store-quad-keeps Same m a q (keeps-other _ _ apart) refl
 
-  pub words-put-other : (address count : ℕ) (word : ℕ → ℕ) → Apart i address (address + 4 * count) → Same (wordsPut address count word m)
+  words-put-other : (address count : ℕ) (word : ℕ → ℕ) → Apart i address (address + 4 * count) → Same (wordsPut address count word m)
   words-put-other address count word apart = kept.words-put-keeps Same address count word m (keeps-other _ _ apart) refl
 
   pub pixels-put-other : (address stride width height : ℕ) (pixel : ℕ → ℕ → ℕ) → InNoRow i address stride width height

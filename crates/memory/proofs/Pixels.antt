@@ -14,7 +14,7 @@ use Rattle.memory.proofs.Places.{word-read-back}
 use Rattle.memory.proofs.Rows.{row-inside, row-after}
 use Rattle.memory.proofs.Kept.{with-word-keeps, words-put-keeps}
 use Rattle.memory.proofs.Lengths.{words-put-length, pixels-put-length}
-use Rattle.memory.proofs.Others.{Apart, InNoRow, keeps-word, filled-other}
+use Rattle.memory.proofs.Others.{Apart, InNoRow, keeps-word, pixels-put-other}
 
 -- word i reads what was put there
 pub words-put-word : (address count i : ℕ) (word : ℕ → ℕ) (m : List ℕ) → word i < 2 ^ 32 → address + 4 * count ≤ length m → i < count
@@ -27,11 +27,14 @@ words-put-word address count i word m small inside below =
 
 -- byte i belongs to pixel (x, y)
 abbrev pub InPixel : ℕ → ℕ → ℕ → ℕ → ℕ → Type 0
-InPixel address stride x y i = (address + y * stride + 4 * x ≤ i) × (i < address + y * stride + 4 * x + 4)
+InPixel i address stride x y = (address + y * stride + 4 * x ≤ i) × (i < address + y * stride + 4 * x + 4)
 
--- a byte of no pixel is in no row
-pub in-no-row : (address stride width height i : ℕ) → ((x y : ℕ) → x < width → y < height → InPixel address stride x y i → ⊥)
-    → InNoRow i address stride width height
+-- byte i belongs to no pixel of a rectangle
+abbrev pub InNoPixel : ℕ → ℕ → ℕ → ℕ → ℕ → Type 0
+InNoPixel i address stride width height = (x y : ℕ) → x < width → y < height → InPixel i address stride x y → ⊥
+
+-- then it is in no row
+in-no-row : (address stride width height i : ℕ) → InNoPixel i address stride width height → InNoRow i address stride width height
 in-no-row address stride width height i none y h = go (decLt i (address + y * stride)) (decLe (address + y * stride + 4 * width) i)
   where
     go : Dec (i < address + y * stride) → Dec (address + y * stride + 4 * width ≤ i) → Apart i (address + y * stride) (address + y * stride + 4 * width)
@@ -62,6 +65,11 @@ module _ (address stride width height : ℕ) (m : List ℕ) where
   unfolding filled
   filled-pixel color x y small apart inside hx hy = pixels-put-pixel (λ x y. color) x y small apart inside hx hy
 
-  pub filled-no-pixel : (color i : ℕ) → ((x y : ℕ) → x < width → y < height → InPixel address stride x y i → ⊥)
-      → getD (filled address stride width height color m) i 0 ≡ getD m i 0
-  filled-no-pixel color i none = filled-other m i address stride width height color (in-no-row address stride width height i none)
+  -- a byte of no pixel is as it was
+  pub pixels-put-no-pixel : (pixel : ℕ → ℕ → ℕ) (i : ℕ) → InNoPixel i address stride width height
+      → getD (pixelsPut address stride width height pixel m) i 0 ≡ getD m i 0
+  pixels-put-no-pixel pixel i none = pixels-put-other m i address stride width height pixel (in-no-row address stride width height i none)
+
+  pub filled-no-pixel : (color i : ℕ) → InNoPixel i address stride width height → getD (filled address stride width height color m) i 0 ≡ getD m i 0
+  unfolding filled
+  filled-no-pixel color i none = pixels-put-no-pixel (λ x y. color) i none

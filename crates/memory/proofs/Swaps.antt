@@ -2,26 +2,24 @@
 -- Assumes nothing.
 use mathlib.Core.Path.{_≡_, sym}
 use mathlib.Core.List.{List}
-use mathlib.Core.Logic.{inr}
-use Prim.Native.Nat.{ℕ, _+_, _*_, _≤_, _<_}
+use Prim.Native.Nat.{ℕ, _+_, _*_, _≤_}
 use native.Mathlib.Omega.{arith}
 use lib.ListN.{set}
 use lib.Seq.{set-comm}
 use Rattle.memory.specs.Place.{withWord}
 use Rattle.memory.specs.Rectangle.{wordsPut}
 use Rattle.memory.proofs.After.{after-swap}
-use Rattle.memory.proofs.Others.{Apart, apart-ne}
 
--- a byte and a word
-with-word-set : (m : List ℕ) (a v j b : ℕ) → Apart j a (a + 4) → withWord (set m j b) a v ≡ set (withWord m a v) j b
+-- a byte and a word before it
+with-word-set : (m : List ℕ) (a v j b : ℕ) → a + 4 ≤ j → withWord (set m j b) a v ≡ set (withWord m a v) j b
 unfolding withWord
-with-word-set m a v j b apart =
-    let ne : (k : ℕ) → a ≤ k → k < a + 4 → j ≡ k → ⊥ = λ k l u. apart-ne j a (a + 4) k apart l u in
-    let n0 = ne a (omega arith) (omega arith) in
-    let n1 = ne (a + 1) (omega arith) (omega arith) in
-    let n2 = ne (a + 2) (omega arith) (omega arith) in
-    let n3 = ne (a + 3) (omega arith) (omega arith) in
-    rw (set-comm m j a b _ n0, set-comm _ j (a + 1) b _ n1, set-comm _ j (a + 2) b _ n2, set-comm _ j (a + 3) b _ n3)
+with-word-set m a v j b before =
+    rw (
+      set-comm m j a b _ (λ e. omega arith),
+      set-comm _ j (a + 1) b _ (λ e. omega arith),
+      set-comm _ j (a + 2) b _ (λ e. omega arith),
+      set-comm _ j (a + 3) b _ (λ e. omega arith),
+    )
 
 -- four bytes and a word before them
 with-word-sets : (m : List ℕ) (a u b v0 v1 v2 v3 : ℕ) → a + 4 ≤ b
@@ -29,10 +27,10 @@ with-word-sets : (m : List ℕ) (a u b v0 v1 v2 v3 : ℕ) → a + 4 ≤ b
     ≡ set (set (set (set (withWord m a u) b v0) (b + 1) v1) (b + 2) v2) (b + 3) v3
 with-word-sets m a u b v0 v1 v2 v3 before =
     rw (
-      with-word-set _ a u (b + 3) v3 (inr (omega arith)),
-      with-word-set _ a u (b + 2) v2 (inr (omega arith)),
-      with-word-set _ a u (b + 1) v1 (inr (omega arith)),
-      with-word-set _ a u b v0 (inr (omega arith)),
+      with-word-set _ a u (b + 3) v3 (omega arith),
+      with-word-set _ a u (b + 2) v2 (omega arith),
+      with-word-set _ a u (b + 1) v1 (omega arith),
+      with-word-set _ a u b v0 (omega arith),
     )
 
 -- two words

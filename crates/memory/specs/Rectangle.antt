@@ -1,4 +1,4 @@
--- Rectangles of pixels. A pixel is one word; pixel (x, y) lies at address + y·stride + 4·x.
+-- Words put in a row, and pixels in a rectangle. A pixel is one word; pixel (x, y) lies at address + y·stride + 4·x.
 use mathlib.Core.Bool.{cond}
 use mathlib.Core.List.{List}
 use Prim.Native.Nat.{ℕ, _+_, _-_, _*_, _≤_, _<_}
@@ -15,11 +15,11 @@ rectangleEnd address stride width height =
 unfoldable pub RowsApart : ℕ → ℕ → ℕ → Type 0
 RowsApart stride width height = 0 < width → 0 < height → 4 * width ≤ stride
 
--- `count` words put from `address` on: word i is `word i`
+-- `count` words put from `address` on, at number i the word `word i`
 unfoldable pub wordsPut : ℕ → ℕ → (ℕ → ℕ) → List ℕ → List ℕ
 wordsPut address count word = after (λ i m. withWord m (address + 4 * i) (word i)) count
 
--- a rectangle of pixels put: pixel (x, y) is `pixel x y`
+-- a rectangle of pixels put, at (x, y) the pixel `pixel x y`
 unfoldable pub pixelsPut : ℕ → ℕ → ℕ → ℕ → (ℕ → ℕ → ℕ) → List ℕ → List ℕ
 pixelsPut address stride width height pixel = after (λ y. wordsPut (address + y * stride) width (λ x. pixel x y)) height
 

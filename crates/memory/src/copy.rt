@@ -1,5 +1,6 @@
 // Copies of words within a window, in place. Words and rows go in rising order, or in falling order if the destination lies higher:
-// so no source word is written over before it is read.
+// so no source word is written over before it is read. Of a rectangle this is enough, since its rows lie apart: its words rise with
+// their number.
 ghost use mathlib.Core.Path.{_≡_};
 ghost use mathlib.Core.Bool.{cond};
 ghost use Prim.Native.Nat.{_+_, _-_, _*_, _≤_, _<_};

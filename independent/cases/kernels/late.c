@@ -201,7 +201,7 @@ static void emit_off_the_end(struct maker *m, uint32_t steps, uint32_t limit)
 }
 
 /* The chosen thread's branch leads over the end of all others, and now and then
- * over words of none, to a place far on. */
+ * over words that are no instruction, to a place far on. */
 static void emit_stop(struct maker *m, uint32_t limit)
 {
     uint32_t steps = m->words + 1, others = below(m->c, 3);

@@ -4,10 +4,12 @@ use Prim.Native.Nat.{_≤_, _-_}
 use native.Mathlib.Omega.{arith}
 use lib.ListN.{length}
 use denote.Ref.{now}
+use Rattle.memory.specs.Copy.{blitted}
 use Rattle.memory.proofs.After.{after-none}
+use Rattle.memory.proofs.Put.{pixels-put-empty}
 use Rattle.memory.proofs.Rows.{row-inside, row-offset-fits, row-start-fits}
 use Rattle.memory.proofs.Order.{ordered}
-use Rattle.memory.proofs.Copied.{rowPut, blitted-empty, row-turn, row-turns}
+use Rattle.memory.proofs.Copied.{rowPut, row-turn, row-turns}
 use Rattle.memory.proofs.copy.blit.Statement.{statement}
 use Rattle.memory.proofs.copy.blit.Tie as tie
 
@@ -19,7 +21,8 @@ abbrev μ-loop : tie.MeasureT-loop
 μ-loop window₀ to from stride width height i₀ window i = height - i
 
 returns : tie.Need-returns Inv-loop μ-loop
-returns c = rw (c .if1 .taken, blitted-empty)
+unfolding blitted
+returns c = rw (c .if1 .taken, pixels-put-empty)
 
 loop-holds : tie.Need-loop-holds Inv-loop μ-loop
 loop-holds c = (omega arith, refl, sym (after-none _ _))

@@ -11,7 +11,8 @@ use Rattle.memory.proofs.rectangle.fill.Statement.{statement}
 use Rattle.memory.proofs.rectangle.fill.Tie as tie
 
 abbrev Inv-loop : tie.InvT-loop
-Inv-loop window₀ address stride width height color y₀ window y = (y ≤ height) × (length window ≡ length window₀) × (window ≡ pixelsPut address stride width y (λ i j. color) window₀)
+Inv-loop window₀ address stride width height color y₀ window y =
+    (y ≤ height) × (length window ≡ length window₀) × (window ≡ pixelsPut address stride width y (λ i j. color) window₀)
 
 abbrev μ-loop : tie.MeasureT-loop
 μ-loop window₀ address stride width height color y₀ window y = height - y

@@ -9,7 +9,8 @@ use Rattle.memory.proofs.rectangle.fill_row.Statement.{statement}
 use Rattle.memory.proofs.rectangle.fill_row.Tie as tie
 
 abbrev Inv-loop : tie.InvT-loop
-Inv-loop window₀ address width color x₀ window x = (x ≤ width) × (length window ≡ length window₀) × (window ≡ wordsPut address x (λ i. color) window₀)
+Inv-loop window₀ address width color x₀ window x =
+    (x ≤ width) × (length window ≡ length window₀) × (window ≡ wordsPut address x (λ i. color) window₀)
 
 abbrev μ-loop : tie.MeasureT-loop
 μ-loop window₀ address width color x₀ window x = width - x

@@ -1,5 +1,5 @@
--- What a copy means, word by word, for any overlap: each word of the destination reads what the source's word read before, every byte
--- outside the destination is as it was (of words in a row this is `Others.copied-other`), and a copy onto itself changes nothing.
+-- What a copy means, whichever way its two sides overlap. That bytes outside the destination stay is, of words in a row,
+-- `Others.copied-other`.
 -- Assumes nothing.
 use mathlib.Core.Path.{_≡_, refl, ap, _∙_}
 use mathlib.Core.List.{List}
@@ -12,8 +12,7 @@ use Rattle.memory.specs.Rectangle.{rectangleEnd, RowsApart, wordsPut, pi
 use Rattle.memory.specs.Copy.{copied, blitted}
 use Rattle.memory.proofs.After.{after-keeps}
 use Rattle.memory.proofs.Places.{Bytes, word-fits}
-use Rattle.memory.proofs.Others.{blitted-other}
-use Rattle.memory.proofs.Pixels.{words-put-word, pixels-put-pixel, InPixel, in-no-row}
+use Rattle.memory.proofs.Pixels.{words-put-word, pixels-put-pixel, InNoPixel, pixels-put-no-pixel}
 
 -- a word put where it stands changes nothing
 own-word : (m : List ℕ) (a : ℕ) → Bytes m → withWord m a (wordAt m a) ≡ m
@@ -30,11 +29,13 @@ own-word m a bytes =
     rw (b0, set-getD m a 0, b1, set-getD m (a + 1) 0, b2, set-getD m (a + 2) 0, b3, set-getD m (a + 3) 0)
 
 module _ (m : List ℕ) (bytes : Bytes m) where
+  -- word i of the destination reads what word i of the source read before
   pub copied-word : (to from words i : ℕ) → to + 4 * words ≤ length m → i < words
       → wordAt (copied to from words m) (to + 4 * i) ≡ wordAt m (from + 4 * i)
   unfolding copied
   copied-word to from words i inside below = words-put-word to words i _ m (word-fits m _ bytes) inside below
 
+  -- so does pixel (x, y)
   pub blitted-pixel : (to from stride width height x y : ℕ) → RowsApart stride width height → rectangleEnd to stride width height ≤ length m
       → x < width → y < height
       → wordAt (blitted to from stride width height m) (to + y * stride + 4 * x) ≡ wordAt m (from + y * stride + 4 * x)
@@ -49,6 +50,7 @@ module _ (m : List ℕ) (bytes : Bytes m) where
       (λ i x below same. ap (λ z. withWord z (place + 4 * i) (wordAt m (place + 4 * i))) same ∙ own-word m _ bytes)
       refl
 
+  -- a copy onto itself changes nothing
   pub copied-onto-itself : (place words : ℕ) → copied place place words m ≡ m
   unfolding copied
   copied-onto-itself place words = own-words place words
@@ -61,6 +63,7 @@ module _ (m : List ℕ) (bytes : Bytes m) where
       refl
 
 -- a byte of no pixel of the destination is as it was
-pub blitted-no-pixel : (to from stride width height i : ℕ) (m : List ℕ) → ((x y : ℕ) → x < width → y < height → InPixel to stride x y i → ⊥)
+pub blitted-no-pixel : (to from stride width height i : ℕ) (m : List ℕ) → InNoPixel i to stride width height
     → getD (blitted to from stride width height m) i 0 ≡ getD m i 0
-blitted-no-pixel to from stride width height i m none = blitted-other m i to from stride width height (in-no-row to stride width height i none)
+unfolding blitted
+blitted-no-pixel to from stride width height i m none = pixels-put-no-pixel to stride width height m _ i none
