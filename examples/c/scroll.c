@@ -1,7 +1,7 @@
-/* A console of four lines of eight characters, a pixel for each, scrolled onto itself: down by a line, right by a column, and
- * then a part of one line moved on. The line and the column that it leaves keep what they held: clear them by FILL_RECT. Were
- * words always copied from the first on, the first line would be there four times, and then the first character of a line in
- * all its columns. */
+/* A console of four lines of eight characters, a pixel for each, scrolled by copies within it: down by a line, right by a
+ * column, and then a part of one line moved on. The line and the column that it leaves keep what they held: clear them by
+ * FILL_RECT. Were words always copied from the first on, the first line would be there four times, and then the first
+ * character of a line in all its columns. */
 #include <stdio.h>
 #include <string.h>
 #include "fioravispa.h"

@@ -44,7 +44,7 @@ edits = [
     ("work", "BLIT's source without stride", "ind_load(window, command->arg1 + at, WORD)", "ind_load(window, command->arg1 + (higher ? words - 1 - i : i) * WORD, WORD)"),
     ("work", "BLIT's destination without stride", "ind_store(window, command->arg0 + at, WORD,", "ind_store(window, command->arg0 + (higher ? words - 1 - i : i) * WORD, WORD,"),
     ("work", "FILL without its last column", "x < size.width; x++", "x + 1 < size.width; x++"),
-    ("work", "rectangles from the frame's base", "uint32_t dst = command->arg0 + y * stride;", "uint32_t dst = command->arg0 + y * stride + (command->opcode == FILL_RECT && size.width < 2 ? 4 : 0);"),
+    ("work", "a FILL of one column a word too high", "uint32_t dst = command->arg0 + y * stride;", "uint32_t dst = command->arg0 + y * stride + (size.width < 2 ? 4 : 0);"),
     ("work", "READ_MEM behind what is there", "ind_put(pipe + WORD * i, WORD,", "ind_put(pipe + WORD * i + (command->len < 250 ? WORD : 0), WORD,"),
     ("work", "READ_MEM clears the pipe's rest", "    for (uint32_t i = 0; i < command->len; i++)\n        ind_put(pipe", "    for (uint32_t i = 0; i < 255; i++)\n        ind_put(pipe + WORD * i, WORD, 0);\n    for (uint32_t i = 0; i < command->len; i++)\n        ind_put(pipe"),
     ("work", "groups and threads exchanged", "window, command->arg0, command->arg1, limit,", "window, command->arg1, command->arg0, limit,"),

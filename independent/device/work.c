@@ -8,13 +8,9 @@ static uint32_t word_place(struct ind_size size, uint32_t stride, uint32_t i)
     return i / size.width * stride + i % size.width * WORD;
 }
 
-/* From arg1 to arg0, as if every word were read before any is written, with no
- * place to keep them. All move by one distance, and of two words the later lies
- * higher on either side, as no row is longer than the stride (outcome 7). So a
- * word that moves to a higher place can only fall on the source of a later one,
- * and the last goes first; one that moves lower, on that of an earlier one, and
- * the first goes first. Where the rows of the two sides interleave makes no
- * difference to this. */
+/* From arg1 to arg0, as if every word were read before any is written: from the
+ * last word if they move higher, else from the first. NOTES.md tells why that is
+ * enough. */
 static void copy_rectangle(const struct ind_window *window,
                            const struct ind_command *command,
                            struct ind_size size, uint32_t stride)

@@ -1,4 +1,4 @@
--- Every byte outside what is written is as it was.
+-- Every byte outside what is written is as it was. `Pixels` and `Overlaps` say it of fills and copies pixel by pixel.
 -- Assumes nothing.
 use mathlib.Core.Path.{_≡_, refl, _∙_}
 use mathlib.Core.List.{List}
@@ -12,8 +12,8 @@ use Rattle.memory.specs.declared.quad.Quad.{Quad}
 use Rattle.memory.specs.Place.{wordAt}
 use Rattle.memory.specs.Access.{bytesOf, storeOf}
 use Rattle.memory.specs.Quad.{storeQuadOf}
-use Rattle.memory.specs.Rectangle.{wordsPut, pixelsPut, filled}
-use Rattle.memory.specs.Copy.{copied, blitted}
+use Rattle.memory.specs.Rectangle.{wordsPut, pixelsPut}
+use Rattle.memory.specs.Copy.{copied}
 use Rattle.memory.specs.Transfer.{transferred}
 use Rattle.memory.proofs.Kept as kept
 
@@ -50,17 +50,9 @@ module _ (m : List ℕ) (i : ℕ) where
   pixels-put-other address stride width height pixel apart =
       kept.pixels-put-keeps Same address stride width height pixel m (λ y b. keeps-other _ _ (apart y b)) refl
 
-  pub filled-other : (address stride width height color : ℕ) → InNoRow i address stride width height → Same (filled address stride width height color m)
-  unfolding filled
-  filled-other address stride width height color apart = pixels-put-other address stride width height _ apart
-
   pub copied-other : (to from words : ℕ) → Apart i to (to + 4 * words) → Same (copied to from words m)
   unfolding copied
   copied-other to from words apart = words-put-other to words _ apart
-
-  pub blitted-other : (to from stride width height : ℕ) → InNoRow i to stride width height → Same (blitted to from stride width height m)
-  unfolding blitted
-  blitted-other to from stride width height apart = pixels-put-other to stride width height _ apart
 
   pub transferred-other : (source : List ℕ) (start at n : ℕ) → Apart i at (at + n) → Same (transferred source start at n m)
   transferred-other source start at n apart =
