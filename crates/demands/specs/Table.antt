@@ -185,7 +185,7 @@ pub record WhereStopped : Type 0 where
 abbrev pub blitFrom0 : ℕ → ℕ → ℕ → List ℕ → Call
 blitFrom0 to width height pixels = lentOver (bytesOfWords pixels) (header 0x11 0 0 0 to 0 (width + height * 2 ^ 16)) [] [] []
 
--- COPY_BUFFER of len words from 0 to `to`, in the same
+-- COPY_BUFFER of len words from 0 to `to`, in such a frame
 abbrev pub copyFrom0 : ℕ → ℕ → List ℕ → Call
 copyFrom0 to len pixels = lentOver (bytesOfWords pixels) (header 0x23 0 0 len to 0 0) [] [] []
 
