@@ -30,14 +30,21 @@ pub fn with_quad(mut vectors: [u32; 128], n: u32, quad: Quad) -> [u32; 128]
     vectors
 }
 
+// A loop with one call of `lanes`: the compiler then chooses the operation once for the four words.
 pub fn lanes_of_quads(op: LaneOp, ty: LaneType, a: Quad, b: Quad) -> Quad
     ensures { λ r. ⌜ r ≡ lanesOfQuads op ty a b ⌝ }
 {
+    let x = [a.w0, a.w1, a.w2, a.w3];
+    let y = [b.w0, b.w1, b.w2, b.w3];
+    let mut z = [0; 4];
+    for i in 0..4 {
+        z[i] = lanes(op, ty, x[i], y[i]);
+    }
     Quad {
-        w0: lanes(op, ty, a.w0, b.w0),
-        w1: lanes(op, ty, a.w1, b.w1),
-        w2: lanes(op, ty, a.w2, b.w2),
-        w3: lanes(op, ty, a.w3, b.w3),
+        w0: z[0],
+        w1: z[1],
+        w2: z[2],
+        w3: z[3],
     }
 }
 

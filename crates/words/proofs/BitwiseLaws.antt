@@ -1,10 +1,10 @@
--- Each bit of a bitwise result depends on the same bit of the two numbers alone.
+-- Each bit of a bitwise result depends on the same bit of the two numbers alone, and an or is at least the second.
 -- Assumes nothing.
 use mathlib.Core.Path.{_≡_, refl, ap, _∙_}
-use Prim.Native.Nat.{ℕ, zero, suc, _+_, _*_, _/_, _%_, _^_, _<_, max}
+use Prim.Native.Nat.{ℕ, zero, suc, _+_, _*_, _/_, _%_, _^_, _≤_, _<_, max}
 use native.Mathlib.Nat.{mod-lt}
 use native.Mathlib.Omega.{arith}
-use lib.Bits.{xor-shr, or-shr, and-shr, xor-mod, or-mod, and-mod}
+use lib.Bits.{xor-shr, or-shr, and-shr, xor-mod, or-mod, and-mod, or-add-and, and-le-l}
 use Rattle.words.specs.Bitwise.{xorOf, orOf, andOf}
 use Rattle.words.specs.Counts.{bit}
 
@@ -36,3 +36,7 @@ module _ (i a b : ℕ) where
   and-bit =
       ap (λ x. x % 2) (and-shr a b i) ∙ and-mod (a / 2 ^ i) (b / 2 ^ i) 1
       ∙ two-bits (λ x y. andOf x y ≡ x * y) refl refl refl refl (bit i a) (bit i b) (lowest (a / 2 ^ i)) (lowest (b / 2 ^ i))
+
+-- an or is at least the second of the two
+pub le-or : (a b : ℕ) → b ≤ orOf a b
+le-or a b = omega (arith, or-add-and a b, and-le-l a b)

@@ -79,22 +79,30 @@ module _ (f : ℕ → ℕ → ℕ) (k : ℕ) (fits : (x y : ℕ) → x < 2 ^ k �
       → lane k i (lanewise f k n a b) ≡ lane k i (lanewise f k n a′ b′)
   lanewise-apart n a b a′ b′ i h p q = lanewise-lane n a b i h ∙ ap₂ f p q ∙ sym (lanewise-lane n a′ b′ i h)
 
--- an operation that works on each run of bits apart works on the whole word at once, whatever the lanes' width
+-- an operation on n lanes that works on the highest apart from those below it works on the whole word at once
+module _ (f : ℕ → ℕ → ℕ) (k : ℕ) (op : ℕ → ℕ → ℕ → ℕ) (none : op 0 0 0 ≡ 0)
+    (highest : (n x y r s : ℕ) → x < 2 ^ k → y < 2 ^ k → r < 2 ^ (k * n) → s < 2 ^ (k * n)
+    → op (suc n) (x * 2 ^ (k * n) + r) (y * 2 ^ (k * n) + s) ≡ f x y * 2 ^ (k * n) + op n r s) where
+  pub lanewise-whole : (n a b : ℕ) → lanewise f k n a b ≡ op n (a % 2 ^ (k * n)) (b % 2 ^ (k * n))
+  unfolding lanewise
+  lanewise-whole zero a b = simp (mul-zero, mod-one) (sym none)
+  lanewise-whole (suc n) a b =
+      ap (λ (x : ℕ). f (lane k n a) (lane k n b) * 2 ^ (k * n) + x) (lanewise-whole n a b)
+      ∙ sym
+      (highest n (lane k n a) (lane k n b) (a % 2 ^ (k * n)) (b % 2 ^ (k * n)) (lane-below k n a) (lane-below k n b) (mod-lt a (pow-pos (k * n))) (mod-lt b (pow-pos (k * n))))
+      ∙ ap₂ (op (suc n)) (sym (one-lane-more k n a)) (sym (one-lane-more k n b))
+
+-- so does one that works on each run of bits apart, whatever the lanes' width
 module _ (op : ℕ → ℕ → ℕ) (none : op 0 0 ≡ 0)
     (block : (k a b r s : ℕ) → r < 2 ^ k → s < 2 ^ k → op (a * 2 ^ k + r) (b * 2 ^ k + s) ≡ op a b * 2 ^ k + op r s) where
-  lanewise-whole : (k n a b : ℕ) → lanewise op k n a b ≡ op (a % 2 ^ (k * n)) (b % 2 ^ (k * n))
-  unfolding lanewise
-  lanewise-whole k zero a b = simp (mul-zero, mod-one) (sym none)
-  lanewise-whole k (suc n) a b =
-      ap (λ (x : ℕ). op (lane k n a) (lane k n b) * 2 ^ (k * n) + x) (lanewise-whole k n a b)
-      ∙ sym (block (k * n) (lane k n a) (lane k n b) (a % 2 ^ (k * n)) (b % 2 ^ (k * n)) (mod-lt a (pow-pos (k * n))) (mod-lt b (pow-pos (k * n))))
-      ∙ ap₂ op (sym (one-lane-more k n a)) (sym (one-lane-more k n b))
+  lanewise-bits : (k n a b : ℕ) → lanewise op k n a b ≡ op (a % 2 ^ (k * n)) (b % 2 ^ (k * n))
+  lanewise-bits k = lanewise-whole op k (λ _. op) none (λ n x y r s _ _ hr hs. block (k * n) x y r s hr hs)
 
 pub lanewise-xor : (k n a b : ℕ) → lanewise bitXor k n a b ≡ bitXor (a % 2 ^ (k * n)) (b % 2 ^ (k * n))
-lanewise-xor = lanewise-whole bitXor refl xor-block
+lanewise-xor = lanewise-bits bitXor refl xor-block
 
 pub lanewise-and : (k n a b : ℕ) → lanewise bitAnd k n a b ≡ bitAnd (a % 2 ^ (k * n)) (b % 2 ^ (k * n))
-lanewise-and = lanewise-whole bitAnd refl and-block
+lanewise-and = lanewise-bits bitAnd refl and-block
 
 pub lanewise-or : (k n a b : ℕ) → lanewise bitOr k n a b ≡ bitOr (a % 2 ^ (k * n)) (b % 2 ^ (k * n))
-lanewise-or = lanewise-whole bitOr refl or-block
+lanewise-or = lanewise-bits bitOr refl or-block

@@ -1,7 +1,7 @@
 -- The laws of an operation on a word of lanes, by the lanes' type.
 -- Assumes nothing.
 use mathlib.Core.Path.{_≡_, refl, ap, ap₂, _∙_, subst}
-use Prim.Native.Nat.{ℕ, _*_, _%_, _^_, _<_}
+use Prim.Native.Nat.{ℕ, _+_, _-_, _*_, _%_, _^_, _<_}
 use native.Mathlib.Nat.{mod-eq-of-lt, div-one}
 use native.Mathlib.Omega.{arith}
 use lib.Bits.{bitXor, bitAnd, bitOr, xor-lt, and-lt, or-lt}
@@ -12,6 +12,8 @@ use Rattle.words.specs.declared.lanes.LaneOp.{LaneOp}
 use Rattle.words.specs.declared.lanes.LaneOp.the-variants.{Add, Sub, Xor, And, Or, Mul}
 use Rattle.words.specs.declared.lanes.LaneType.{LaneType}
 use Rattle.words.specs.declared.lanes.LaneType.the-variants.{I32, I16, I8}
+use Rattle.words.proofs.HeldBack.{heldSum, heldDifference}
+use Rattle.words.proofs.AllLanes.{below-twice, sums-at-once, differences-at-once}
 use Rattle.words.proofs.LaneLaws.{lanewise-below, lanewise-xor, lanewise-and, lanewise-or}
 use Rattle.words.proofs.WordLaws.{sum-below, difference-below, product-below}
 
@@ -38,25 +40,63 @@ module _ (op : LaneOp) (ty : LaneType) where
       subst (λ (x : ℕ). lanesOf op ty a b < 2 ^ x) (lanes-fill ty)
       (lanewise-below (laneOf op ty) (laneBits ty) (laneOf-below op ty) (laneCount ty) a b)
 
--- a bitwise operation is that operation on the whole word
+-- the top bit of each lane, and the bits below it
+abbrev pub laneTops : LaneType → ℕ
+laneTops ty = lanewise (λ _ _. 2 ^ (laneBits ty - 1)) (laneBits ty) (laneCount ty) 0 0
+
+abbrev pub laneBelow : LaneType → ℕ
+laneBelow ty = lanewise (λ _ _. 2 ^ (laneBits ty - 1) - 1) (laneBits ty) (laneCount ty) 0 0
+
+pub other-bits : (ty : LaneType) → 2 ^ 32 - 1 - laneBelow ty ≡ laneTops ty
+unfolding lanewise
+other-bits I32 = refl
+other-bits I16 = refl
+other-bits I8 = refl
+
+pub laneBelow-twice : (ty : LaneType) → laneBelow ty + laneBelow ty < 2 ^ 32
+laneBelow-twice I32 = below-twice 31 1
+laneBelow-twice I16 = below-twice 15 2
+laneBelow-twice I8 = below-twice 7 4
+
+-- the bits of a word that its lanes fill
+abbrev low : LaneType → ℕ → ℕ
+low ty w = w % 2 ^ (laneBits ty * laneCount ty)
+
+-- the sums and the differences by the law, at each type
+sums : (ty : LaneType) (a b : ℕ) → lanesOf Add ty a b ≡ heldSum (laneTops ty) (laneBelow ty) (low ty a) (low ty b)
+unfolding lanesOf
+sums I32 = sums-at-once 31 1
+sums I16 = sums-at-once 15 2
+sums I8 = sums-at-once 7 4
+
+differences : (ty : LaneType) (a b : ℕ) → lanesOf Sub ty a b ≡ heldDifference (laneTops ty) (laneBelow ty) (low ty a) (low ty b)
+unfolding lanesOf
+differences I32 = differences-at-once 31 1
+differences I16 = differences-at-once 15 2
+differences I8 = differences-at-once 7 4
+
+-- what is done to the whole word at once
 module _ (ty : LaneType) (a b : ℕ) (ha : a < 2 ^ 32) (hb : b < 2 ^ 32) where
-  whole : (op : ℕ → ℕ → ℕ)
-      → lanewise op (laneBits ty) (laneCount ty) a b ≡ op (a % 2 ^ (laneBits ty * laneCount ty)) (b % 2 ^ (laneBits ty * laneCount ty))
-      → lanewise op (laneBits ty) (laneCount ty) a b ≡ op a b
-  whole op e =
-      e ∙ ap (λ (x : ℕ). op (a % 2 ^ x) (b % 2 ^ x)) (lanes-fill ty) ∙ ap₂ op (mod-eq-of-lt ha) (mod-eq-of-lt hb)
+  whole : (op : ℕ → ℕ → ℕ) → op (low ty a) (low ty b) ≡ op a b
+  whole op = ap (λ (x : ℕ). op (a % 2 ^ x) (b % 2 ^ x)) (lanes-fill ty) ∙ ap₂ op (mod-eq-of-lt ha) (mod-eq-of-lt hb)
+
+  pub lanesOf-sum : lanesOf Add ty a b ≡ heldSum (laneTops ty) (laneBelow ty) a b
+  lanesOf-sum = sums ty a b ∙ whole (heldSum (laneTops ty) (laneBelow ty))
+
+  pub lanesOf-difference : lanesOf Sub ty a b ≡ heldDifference (laneTops ty) (laneBelow ty) a b
+  lanesOf-difference = differences ty a b ∙ whole (heldDifference (laneTops ty) (laneBelow ty))
 
   pub lanesOf-xor : lanesOf Xor ty a b ≡ bitXor a b
   unfolding lanesOf
-  lanesOf-xor = whole bitXor (lanewise-xor (laneBits ty) (laneCount ty) a b)
+  lanesOf-xor = lanewise-xor (laneBits ty) (laneCount ty) a b ∙ whole bitXor
 
   pub lanesOf-and : lanesOf And ty a b ≡ bitAnd a b
   unfolding lanesOf
-  lanesOf-and = whole bitAnd (lanewise-and (laneBits ty) (laneCount ty) a b)
+  lanesOf-and = lanewise-and (laneBits ty) (laneCount ty) a b ∙ whole bitAnd
 
   pub lanesOf-or : lanesOf Or ty a b ≡ bitOr a b
   unfolding lanesOf
-  lanesOf-or = whole bitOr (lanewise-or (laneBits ty) (laneCount ty) a b)
+  lanesOf-or = lanewise-or (laneBits ty) (laneCount ty) a b ∙ whole bitOr
 
 -- lane by lane
 module _ (op : LaneOp) (a b : ℕ) where

@@ -1,7 +1,6 @@
 pub mod Powers
 pub mod Order
 pub mod LaneLaws
-pub mod LaneTypes
 pub mod FirstSet
 pub mod CountLaws
 pub mod SignedOrder
@@ -10,5 +9,8 @@ pub mod ByteLaws
 pub mod ArithmeticLaws
 pub mod WordLaws
 pub mod BitwiseLaws
+pub mod HeldBack
+pub mod AllLanes
+pub mod LaneTypes
 pub mod Choices
 pub mod EachBelow

@@ -1,23 +1,12 @@
 // Sums, differences and products of the two lanes of 16 bits in a word.
 ghost use mathlib.Core.Path.{_≡_};
-ghost use Rattle.words.specs.Arithmetic.{sum, difference, product};
+ghost use Rattle.words.specs.Arithmetic.{product};
 ghost use Rattle.words.specs.Lanes.{lanesOf};
+use crate::at_once;
 use crate::halves::word_halves;
 use crate::halves::word_of_halves;
 use crate::lanes::LaneOp;
 use crate::lanes::LaneType;
-
-fn add_lane(a: u16, b: u16) -> u16
-    ensures { λ r. ⌜ r ≡ sum 16 a b ⌝ }
-{
-    std::num::wrapping_add_u16(a, b)
-}
-
-fn sub_lane(a: u16, b: u16) -> u16
-    ensures { λ r. ⌜ r ≡ difference 16 a b ⌝ }
-{
-    std::num::wrapping_sub_u16(a, b)
-}
 
 fn mul_lane(a: u16, b: u16) -> u16
     ensures { λ r. ⌜ r ≡ product 16 a b ⌝ }
@@ -28,17 +17,13 @@ fn mul_lane(a: u16, b: u16) -> u16
 pub fn add(a: u32, b: u32) -> u32
     ensures { λ r. ⌜ r ≡ lanesOf LaneOp.Add LaneType.I16 a b ⌝ }
 {
-    let x = word_halves(a);
-    let y = word_halves(b);
-    word_of_halves(add_lane(x.h0, y.h0), add_lane(x.h1, y.h1))
+    at_once::add(LaneType::I16, a, b)
 }
 
 pub fn sub(a: u32, b: u32) -> u32
     ensures { λ r. ⌜ r ≡ lanesOf LaneOp.Sub LaneType.I16 a b ⌝ }
 {
-    let x = word_halves(a);
-    let y = word_halves(b);
-    word_of_halves(sub_lane(x.h0, y.h0), sub_lane(x.h1, y.h1))
+    at_once::sub(LaneType::I16, a, b)
 }
 
 pub fn mul(a: u32, b: u32) -> u32

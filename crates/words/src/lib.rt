@@ -1,5 +1,6 @@
 // Every number rule that the device needs, as pure functions.
 pub mod arithmetic;
+pub mod at_once;
 pub mod bitwise;
 pub mod bytes;
 pub mod choice;
