@@ -9,7 +9,7 @@ static enum style any_style(struct scene *s)
 {
     uint32_t x = below(s->c, 1000);
 
-    return x < 570 ? STYLE_BRIEF : x < 660 ? STYLE_LATE : x < 750 ? STYLE_MISS
+    return x < 550 ? STYLE_BRIEF : x < 640 ? STYLE_LATE : x < 750 ? STYLE_MISS
          : x < 870 ? STYLE_CAREFUL : x < 900 ? STYLE_NEAR
          : x < 930 ? STYLE_WILD : x < 950 ? STYLE_NOISE
          : x < 995 ? STYLE_EXACT : STYLE_FAR;

@@ -12,7 +12,7 @@ wrong=0
 asked='if (memory_refused(device, lent->memory_len))'
 making='if (memory_refused(device, memory_len))'
 lending='before->nulls = n % 2 == 1;'
-self="$build/whole/self.o $build/whole/editions.o $build/whole/stops.o $build/whole/copies.o"
+self="$build/whole/self.o $build/whole/editions.o $build/whole/stops.o $build/whole/copies.o $build/whole/lanes.o"
 objects=$(cd "$top" && find device cases -name '*.c' ! -path device/device.c ! -path device/replay.c |
     sed "s|^|$build/|; s|c\$|o|")
 

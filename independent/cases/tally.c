@@ -6,6 +6,7 @@
 
 #include "cases/copies.h"
 #include "cases/fences.h"
+#include "cases/lanes.h"
 #include "cases/limits.h"
 #include "cases/lines.h"
 #include "cases/sights.h"
@@ -99,9 +100,11 @@ static void tally_run(const struct served *v)
     if (!ind_kernel_extent(pack->bytes, pack->length, v->command.arg2, &kernel))
         abort();
     struct ind_window window = window_again(v);
-    trace_dispatch(&trace, &kernel, &window, &v->command, v->device.limit);
+    trace_dispatch(&trace, &kernel, &window, &v->command, v->device.limit,
+                   NULL);
     free(window.memory);
     count_trace(&trace);
+    lanes_ran(&trace.lanes);
     count.limit[span_of(limits, v->device.limit)]++;
     if (v->report.outcome != IND_DONE)
         stops_served(v, &trace, &kernel);
@@ -280,7 +283,7 @@ static int table_of(FILE *out)
     title(out, "calls in which an instruction is a step");
     for (int i = 0; i < ROWS; i++)
         missing += line(out, table[i].name, count.row[i]);
-    return missing;
+    return missing + lanes_lines(out);
 }
 
 /* Records hold no pointers, so there is nothing to tell of them here. */

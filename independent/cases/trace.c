@@ -10,17 +10,32 @@ static int wfi_is_next(const struct ind_thread *thread,
         && ind_get(kernel->code + thread->place, WORD) == table[ROW_WFI].match;
 }
 
-static uint32_t trace_thread(struct trace *trace, struct ind_thread *thread,
-                             const struct ind_kernel *kernel,
-                             const struct ind_window *window, uint32_t limit)
+/* A step of the last thread, which was like this before it. */
+static void see_step(struct trace *trace, const struct ind_thread *before,
+                     const struct ind_kernel *kernel, err_step *err)
 {
+    uint32_t word = ind_get(kernel->code + before->place, WORD);
+
+    trace->seen[row_of(word)] = 1;
+    lanes_step(&trace->lanes, before, word);
+    if (err != NULL)
+        err(&trace->last, before, word);
+}
+
+static uint32_t trace_thread(struct trace *trace,
+                             const struct ind_kernel *kernel,
+                             const struct ind_window *window, uint32_t limit,
+                             err_step *err)
+{
+    struct ind_thread *thread = &trace->last;
     uint32_t answer = IND_GOES_ON;
 
     while (answer == IND_GOES_ON) {
-        uint32_t place = thread->place, steps = thread->steps, outside;
+        const struct ind_thread before = *thread;
+        uint32_t outside;
         answer = ind_step(thread, kernel, window, limit, &outside);
-        if (thread->steps != steps) /* a stop is no step */
-            trace->seen[row_of(ind_get(kernel->code + place, WORD))] = 1;
+        if (thread->steps != before.steps) /* a stop is no step */
+            see_step(trace, &before, kernel, err);
     }
     trace->steps += thread->steps;
     trace->ended += answer == IND_ENDED;
@@ -32,7 +47,8 @@ static uint32_t trace_thread(struct trace *trace, struct ind_thread *thread,
 
 void trace_dispatch(struct trace *trace, const struct ind_kernel *kernel,
                     const struct ind_window *window,
-                    const struct ind_command *command, uint32_t limit)
+                    const struct ind_command *command, uint32_t limit,
+                    err_step *err)
 {
     uint32_t all = command->arg0 * command->arg1, answer = IND_ENDED;
 
@@ -40,7 +56,7 @@ void trace_dispatch(struct trace *trace, const struct ind_kernel *kernel,
     for (uint32_t n = 0; n < all && answer == IND_ENDED; n++) {
         ind_thread_start(&trace->last, n / command->arg1, n % command->arg1,
                          command->arg1, command->arg0);
-        answer = trace_thread(trace, &trace->last, kernel, window, limit);
+        answer = trace_thread(trace, kernel, window, limit, err);
     }
 }
 

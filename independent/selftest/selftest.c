@@ -32,19 +32,6 @@ static void p1_to_p3(void)
     stage_free(p3);
 }
 
-/* Runs a kernel of one word on a thread and an empty window of no memory. */
-static uint32_t run_word(struct ind_thread *thread, uint32_t word)
-{
-    uint8_t code[4];
-    const struct ind_kernel kernel = {0, 1, code};
-    const struct ind_window window = {NULL, 0, 0};
-    uint32_t outside;
-
-    put_word(code, word);
-    thread->place = 0;
-    return ind_step(thread, &kernel, &window, IND_LIMIT_DEFAULT, &outside);
-}
-
 static void p4_to_p7(void)
 {
     struct ind_thread thread;
@@ -200,6 +187,7 @@ int main(void)
     test_counts();
     test_editions();
     test_kernels();
+    test_lanes();
     test_stops();
     test_replay();
     test_image();

@@ -47,6 +47,18 @@ uint32_t b_shape(uint32_t funct3, uint32_t rs1, uint32_t rs2, int32_t imm)
     return r_shape(BRANCH, high, funct3, low, rs1, rs2);
 }
 
+uint32_t run_word(struct ind_thread *thread, uint32_t word)
+{
+    uint8_t code[4];
+    const struct ind_kernel kernel = {0, 1, code};
+    const struct ind_window window = {NULL, 0, 0};
+    uint32_t outside;
+
+    put_word(code, word);
+    thread->place = 0;
+    return ind_step(thread, &kernel, &window, IND_LIMIT_DEFAULT, &outside);
+}
+
 static void *must(void *piece)
 {
     if (piece == NULL) {

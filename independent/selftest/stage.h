@@ -31,6 +31,9 @@ uint32_t i_shape(uint32_t opcode, uint32_t funct3, uint32_t rd, uint32_t rs1,
 uint32_t s_shape(uint32_t funct3, uint32_t rs1, uint32_t rs2, int32_t imm);
 uint32_t b_shape(uint32_t funct3, uint32_t rs1, uint32_t rs2, int32_t imm);
 
+/* Takes one step in a kernel of one word, with an empty window of no memory. */
+uint32_t run_word(struct ind_thread *thread, uint32_t word);
+
 /* ---- the stage ---- */
 
 struct stage {
@@ -112,6 +115,7 @@ void test_limits(void);
 void test_counts(void);
 void test_editions(void);
 void test_kernels(void);
+void test_lanes(void);
 void test_stops(void);
 void test_replay(void);
 void test_image(void);

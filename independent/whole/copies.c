@@ -79,7 +79,7 @@ void err_copies(struct turned *t)
     };
     int blit = taken.command.opcode == BLIT, higher = sides.dst > sides.src;
 
-    if (MUTANT < 130 || taken.report.outcome != IND_DONE
+    if (MUTANT < 130 || MUTANT > 146 || taken.report.outcome != IND_DONE
         || (!blit && taken.command.opcode != COPY_BUFFER)
         || sides.size.width == 0 || sides.size.height == 0)
         return;

@@ -1,6 +1,6 @@
 #!/bin/sh
-# mutants.sh BUILD SEED: builds each error of self.c, editions.c, stops.c and copies.c into the comparison, which must tell
-# it, and none, which must not differ.
+# mutants.sh BUILD SEED: builds each error of self.c, editions.c, stops.c, copies.c and lanes.c into the comparison, which
+# must tell it, and none, which must not differ.
 # The errors about NULL are built into the comparison of empty pieces too, and errors 18, 32 and 88, which show with an
 # empty piece whether or not it is NULL, errors 35, 36 and 61 to 63, as counts of commands and a fence go round there,
 # errors 99, 101, 107 and 126, as a kernel stops in an empty window there, and error 128, as the bytes behind the report
@@ -18,7 +18,7 @@ try() { # PROGRAM MUTANT WORD..: the program's last line, or the signal that end
     mutant=$2
     shift 2
     # shellcheck disable=SC2086
-    ${CC:-gcc} ${CFLAGS:--std=c11 -O2} -I "$here/.." -DMUTANT="$mutant" "$here/self.c" "$here/editions.c" "$here/stops.c" "$here/copies.c" "$build/$program-all.o" ${LDFLAGS:-} -o "$build/mutant"
+    ${CC:-gcc} ${CFLAGS:--std=c11 -O2} -I "$here/.." -DMUTANT="$mutant" "$here/self.c" "$here/editions.c" "$here/stops.c" "$here/copies.c" "$here/lanes.c" "$build/$program-all.o" ${LDFLAGS:-} -o "$build/mutant"
     status=0
     "$build/mutant" "$@" > "$build/mutant.out" || status=$?
     builds=$((builds + 1))
@@ -28,7 +28,7 @@ try() { # PROGRAM MUTANT WORD..: the program's last line, or the signal that end
     echo "mutant $mutant, $program: $end"
 }
 
-for error in $(seq 0 146); do
+for error in $(seq 0 156); do
     try whole "$error" 20000 "$seed"
 done
 for error in 0 18 19 20 21 22 32 33 35 36 61 62 63 88 89 99 101 107 126 128; do

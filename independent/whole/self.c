@@ -50,18 +50,26 @@ struct taken taken_by(const struct turned *t)
     return taken;
 }
 
+int ran(const struct turned *t)
+{
+    uint32_t number = ind_get(t->report + RING, WORD);
+    uint32_t outcome = ind_get(t->report + OUTCOME, WORD);
+    const uint8_t *cursor = t->before
+        + WORD * (IND_IMAGE_RING_WORDS * number + IND_IMAGE_CURSOR);
+
+    return t->answer == IND_SERVED
+        && (outcome == IND_DONE || outcome >= IND_NOT_LISTED)
+        && t->ring[number][ind_get(cursor, WORD)] == DISPATCH_1D;
+}
+
 static void add(uint8_t *word, uint32_t more)
 {
     ind_put(word, WORD, ind_get(word, WORD) + more);
 }
 
-/* Errors of a served turn. */
+/* Errors of a served turn: of its report, memory and pipe. */
 static void err_served(struct turned *t)
 {
-    uint32_t outcome = ind_get(t->report + OUTCOME, WORD);
-    uint32_t ring = ind_get(t->report + RING, WORD);
-    size_t next = (size_t)RING_BYTES * ((ring + 1) % IND_RINGS);
-
     switch (MUTANT) {
     case 1:
         if (ind_get(t->report + FENCE, WORD) != 0)
@@ -81,13 +89,6 @@ static void err_served(struct turned *t)
         if (ind_get(t->report + WORDS_READ, WORD) != 0)
             add(t->report + WORDS_READ, UINT32_MAX);
         break;
-    case 6: /* the frame of another ring, not written anew */
-        memcpy(t->device + next + HELD, t->before + next + HELD, FRAME_BYTES);
-        break;
-    case 7: /* a faulty header does not pass the turn on */
-        if (outcome >= IND_NO_OPCODE && outcome <= IND_NO_SLOT)
-            memcpy(t->device + MARKER, t->before + MARKER, WORD);
-        break;
     case 8: /* the byte behind the memory */
         if (t->memory != NULL)
             t->memory[t->memory_len] ^= 1;
@@ -95,6 +96,20 @@ static void err_served(struct turned *t)
     default:
         break;
     }
+}
+
+/* Of its image. */
+static void err_written(struct turned *t)
+{
+    uint32_t outcome = ind_get(t->report + OUTCOME, WORD);
+    uint32_t ring = ind_get(t->report + RING, WORD);
+    size_t next = (size_t)RING_BYTES * ((ring + 1) % IND_RINGS);
+
+    if (MUTANT == 6) /* the frame of another ring, not written anew */
+        memcpy(t->device + next + HELD, t->before + next + HELD, FRAME_BYTES);
+    /* a faulty header does not pass the turn on */
+    if (MUTANT == 7 && outcome >= IND_NO_OPCODE && outcome <= IND_NO_SLOT)
+        memcpy(t->device + MARKER, t->before + MARKER, WORD);
 }
 
 /* Errors of a turn that is idle or refused. */
@@ -357,7 +372,9 @@ static void err_turned(struct turned *t)
     err_limit(t);
     if (t->answer == IND_SERVED) {
         err_copies(t);
+        err_lanes(t);
         err_served(t);
+        err_written(t);
         err_counted(t);
     } else if (t->answer < IND_WRONG_IMAGE) {
         err_unserved(t);
@@ -390,6 +407,15 @@ static uint32_t turn_told_short(struct turned *t, size_t device_len)
     return answer;
 }
 
+/* Empty pieces that are read or written all the same. */
+static void touch_empty(const struct turned *t)
+{
+    if (MUTANT == 21 && t->memory_len == 0)
+        (void)*(volatile uint8_t *)t->memory; /* before its length is asked */
+    if (MUTANT == 22 && t->pipe != NULL && t->pipe_len == 0)
+        t->pipe[0] ^= 1; /* a pointer to no bytes, taken for one to some */
+}
+
 uint32_t fv_turn(uint8_t *device, size_t device_len, uint8_t *memory,
                  size_t memory_len, const uint8_t *ring0, size_t ring0_len,
                  const uint8_t *ring1, size_t ring1_len, const uint8_t *ring2,
@@ -406,10 +432,7 @@ uint32_t fv_turn(uint8_t *device, size_t device_len, uint8_t *memory,
 
     if (MUTANT == 20 && ring3 == NULL) /* refused as too long */
         ring_len[3] = IND_RING_MOST + 1;
-    if (MUTANT == 21 && memory_len == 0) /* read before its length is asked */
-        (void)*(volatile uint8_t *)memory;
-    if (MUTANT == 22 && pipe != NULL && pipe_len == 0)
-        pipe[0] ^= 1; /* a pointer to no bytes, taken for one to some */
+    touch_empty(&t);
     if (MUTANT == 18 && report_len != IND_REPORT_BYTES)
         return IND_WRONG_REPORT; /* asked first */
     if (device_len == sizeof t.before)

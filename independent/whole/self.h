@@ -1,5 +1,5 @@
-/* What self.c, editions.c, stops.c and copies.c share: a turn in the archive's
- * place. */
+/* What self.c, editions.c, stops.c, copies.c and lanes.c share: a turn in the
+ * archive's place. */
 #ifndef SELF_H
 #define SELF_H
 
@@ -39,10 +39,14 @@ struct taken {
 
 struct taken taken_by(const struct turned *t);
 
-/* Errors of a turn, after it; of copies, of one that was served. */
+/* Whether it was a dispatch that ran. */
+int ran(const struct turned *t);
+
+/* Errors of a turn, after it; of copies and lanes, of one that was served. */
 void err_edition(struct turned *t);
 void err_stops(struct turned *t);
 void err_copies(struct turned *t);
+void err_lanes(struct turned *t);
 
 /* Errors of a making of edition 1, after it. */
 void err_edition_1_made(uint8_t *device, uint32_t answer);

@@ -8,7 +8,6 @@
 
 /* Where words stand, in bytes. */
 enum {
-    RING = WORD * IND_REPORT_RING,
     OUTCOME = WORD * IND_REPORT_OUTCOME,
     ADDRESS = WORD * IND_REPORT_ADDRESS,
     STOP_BYTES = IND_REPORT_BYTES - ADDRESS
@@ -34,7 +33,7 @@ static struct again run_again(const struct turned *t)
                            &again.kernel))
         abort();
     trace_dispatch(&again.trace, &again.kernel, &window, &taken->command,
-                   taken->limit);
+                   taken->limit, NULL);
     return again;
 }
 
@@ -204,18 +203,6 @@ static void err_done(struct turned *t)
     if (MUTANT == 120)
         stop->place = again.trace.last.place;
     ind_report_encode(&again.taken.report, t->report);
-}
-
-static int ran(const struct turned *t)
-{
-    uint32_t number = ind_get(t->report + RING, WORD);
-    uint32_t outcome = ind_get(t->report + OUTCOME, WORD);
-    const uint8_t *cursor = t->before
-        + WORD * (IND_IMAGE_RING_WORDS * number + IND_IMAGE_CURSOR);
-
-    return t->answer == IND_SERVED
-        && (outcome == IND_DONE || outcome >= IND_NOT_LISTED)
-        && t->ring[number][ind_get(cursor, WORD)] == DISPATCH_1D;
 }
 
 /* Whether what the last stop told is told again. */

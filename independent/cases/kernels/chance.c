@@ -1,5 +1,15 @@
 #include "cases/kernels/chance.h"
 
+enum { LANE_EDGES = 8 };
+
+static const uint8_t edge_byte[LANE_EDGES] = {
+    0x00, 0x01, 0x7F, 0x80, 0x81, 0xFE, 0xFF, 0x10
+};
+
+static const uint16_t edge_half[LANE_EDGES] = {
+    0x0000, 0x0001, 0x7FFF, 0x8000, 0x8001, 0xFFFE, 0xFFFF, 0x00FF
+};
+
 const uint32_t edges[EDGES] = {
     0x00000000, 0x00000001, 0x00000002, 0x0000001F, 0x00000020, 0x0000007F,
     0x00000080, 0x000000FF, 0x00007FFF, 0x00008000, 0x0000FFFF, 0x00010000,
@@ -60,11 +70,19 @@ uint32_t edge_word(struct chance *c)
     }
 }
 
+uint32_t edge_lanes(struct chance *c, uint32_t size)
+{
+    uint32_t word = 0;
+
+    for (uint32_t low = 0; low < 32; low += 8 * size) {
+        uint32_t way = below(c, LANE_EDGES);
+        word |= (uint32_t)(size == 1 ? edge_byte[way] : edge_half[way]) << low;
+    }
+    return word;
+}
+
 void edge_bytes(struct chance *c, uint8_t *bytes, size_t length)
 {
-    static const uint8_t lanes[8] = {
-        0x00, 0x01, 0x7F, 0x80, 0x81, 0xFE, 0xFF, 0x10
-    };
     size_t i = 0;
 
     while (i < length) {
@@ -72,7 +90,7 @@ void edge_bytes(struct chance *c, uint8_t *bytes, size_t length)
         uint32_t word = way == 0 ? any_word(c) : edge_word(c);
 
         for (uint32_t b = 0; b < 4 && i < length; b++, i++)
-            bytes[i] = way == 1 ? lanes[below(c, 8)]
+            bytes[i] = way == 1 ? edge_byte[below(c, LANE_EDGES)]
                                 : (uint8_t)(word >> (8 * b));
     }
 }

@@ -19,6 +19,8 @@ int32_t between(struct chance *c, int32_t low, int32_t high);
 int mille(struct chance *c, uint32_t n);
 /* A word whose arithmetic has an edge, or lies near one. */
 uint32_t edge_word(struct chance *c);
+/* A word of lanes of 1 or 2 bytes, each at an edge of its own. */
+uint32_t edge_lanes(struct chance *c, uint32_t size);
 /* Bytes with edges at every width: words, lanes, small numbers, noise. */
 void edge_bytes(struct chance *c, uint8_t *bytes, size_t length);
 

@@ -32,8 +32,9 @@ edits = [
     ("compute", "BGE as greater", "return !ind_signed_below(a, b);", "return ind_signed_below(b, a);"),
     ("compute", "BGEU as greater", "return a >= b;", "return a > b;"),
     ("compute", "BGE unsigned", "return !ind_signed_below(a, b);", "return a >= b;"),
-    ("compute", "carry between lanes", "result |= (lane & mask) << low;", "result += lane << low;"),
-    ("compute", "high lane lost", "low < 32; low += width", "low < 32 - (width < 32 ? width : 0); low += width"),
+    ("compute", "products carry between lanes", "result |= (lane & mask) << low;", "result += lane << low;"),
+    ("compute", "products' high lane lost", "low < 32; low += width", "low < 32 - width; low += width"),
+    ("compute", "products of the whole word", "return products(size, a, b);", "return a * b;"),
     ("words", "CLZ of 0 is 31", "for (uint32_t bit = 0x80000000u; bit != 0 &&", "for (uint32_t bit = 0x80000000u; bit != 1 &&"),
     ("words", "CTZ of 0 is 31", "for (uint32_t bit = 1; bit != 0 &&", "for (uint32_t bit = 1; bit != 0x80000000u &&"),
     ("words", "ASR without its sign", "((value >> 31) != 0 ? vacated : 0)", "0 * vacated"),
@@ -183,3 +184,72 @@ edits = [
     ("pack", "the last word may be short", "(length - count_at - 4) / 4 < words", "(length - count_at - 4 + 3) / 4 < words", "|| used != pack_len;", "|| used < pack_len;"),
     ("pack", "a kernel up to the end refused", "> words)\n            return IND_PACK_CODE;\n    }", ">= words)\n            return IND_PACK_CODE;\n    }"),
 ]
+
+# Masks of the top bits, in sums and in differences. The highest digit has nothing above it to carry into: it is not needed,
+# and a mask of it alone, I32's or that of I16 without its lower digit, is one of no bit. That is "the whole word at once",
+# below. A mask of all bits leaves no carries at all.
+masks = {1: {
+    "without its lowest digit": "0x80808000u", "without its second digit": "0x80800080u",
+    "without its third digit": "0x80008080u", "of I16": "0x80008000u", "of the bits next to the top": "0x40404040u",
+    "of the lowest bits": "0x01010101u", "of the lower digits": "0x08080808u", "of a digit too many": "0x80808880u",
+    "of all bits but the top": "0x7F7F7F7Fu", "of all bits": "0xFFFFFFFFu",
+}, 2: {
+    "of I8": "0x80808080u", "of the bits next to the top": "0x40004000u", "of the lowest bits": "0x00010001u",
+    "of the lower bytes' top": "0x00800080u", "of a digit too many": "0x80008800u",
+    "of all bits but the top": "0x7FFF7FFFu", "of all bits": "0xFFFFFFFFu",
+}}
+edits += [("compute", "%s of I%d by a mask %s" % (name, 8 * size, label), "return %s(tops_of(size), a, b);" % name,
+           "return %s(size == %d ? %s : tops_of(size), a, b);" % (name, size, mask))
+          for size in masks for label, mask in masks[size].items() for name in ("sums", "differences")]
+
+# What is done with the top bits, in lanes of either width.
+sum_lower, sum_put = "(a & ~tops) + (b & ~tops)", "lower ^ ((a ^ b) & tops)"
+difference_lower, difference_put = "(a | tops) - (b & ~tops)", "lower ^ (~(a ^ b) & tops)"
+tops = [(label, sum_put, new) for label, new in [
+    ("sums: held-back bits or-ed in", "lower | ((a ^ b) & tops)"),
+    ("sums: held-back bits added in", "lower + ((a ^ b) & tops)"),
+    ("sums: held-back bits not put in", "lower"),
+    ("sums: held-back bits put over what is carried into them", "(lower & ~tops) | ((a ^ b) & tops)"),
+    ("sums: top bits of the first alone", "lower ^ (a & tops)"),
+    ("sums: top bits of the second alone", "lower ^ (b & tops)"),
+    ("sums: top bits of either", "lower ^ ((a | b) & tops)"),
+    ("sums: top bits of both", "lower ^ (a & b & tops)"),
+    ("sums: top bits put in as in differences", "lower ^ (~(a ^ b) & tops)"),
+    ("sums: all bits put in", "lower ^ a ^ b"),
+    ("sums: the whole word at once, by a mask of no bit", "a + b"),
+]] + [(label, sum_lower, new) for label, new in [
+    ("sums: the first's top bits not held back", "a + (b & ~tops)"),
+    ("sums: the second's top bits not held back", "(a & ~tops) + b"),
+    ("sums: no top bits held back", "a + b"),
+    ("sums: top bits lent", "(a | tops) + (b & ~tops)"),
+    ("sums: the lower bits held back", "(a & tops) + (b & tops)"),
+]] + [(label, difference_put, new) for label, new in [
+    ("differences: held-back bits or-ed in", "lower | (~(a ^ b) & tops)"),
+    ("differences: held-back bits added in", "lower + (~(a ^ b) & tops)"),
+    ("differences: held-back bits taken off", "lower - (~(a ^ b) & tops)"),
+    ("differences: held-back bits not put in", "lower"),
+    ("differences: held-back bits put over what is borrowed", "(lower & ~tops) | ((a ^ b) & tops)"),
+    ("differences: what is lent taken away, nothing put in", "lower ^ tops"),
+    ("differences: what is lent not taken away", "lower ^ ((a ^ b) & tops)"),
+    ("differences: top bits of the first alone", "lower ^ (a & tops)"),
+    ("differences: top bits of the second alone", "lower ^ (b & tops)"),
+    ("differences: top bits of the first alone, turned over", "lower ^ (~a & tops)"),
+    ("differences: top bits of the second alone, turned over", "lower ^ (~b & tops)"),
+    ("differences: top bits of either", "lower ^ (~(a | b) & tops)"),
+    ("differences: top bits of both", "lower ^ (~(a & b) & tops)"),
+    ("differences: the whole word at once, by a mask of no bit", "a - b"),
+    ("differences: a sum", "sums(tops, a, b)"),
+    ("differences: by the second turned over", "sums(tops, a, ~b)"),
+    ("differences: by the negative of the whole word", "sums(tops, a, 0 - b)"),
+]] + [(label, difference_lower, new) for label, new in [
+    ("differences: the first's own top bits to borrow from", "a - (b & ~tops)"),
+    ("differences: nothing to borrow from", "(a & ~tops) - (b & ~tops)"),
+    ("differences: lent to the wrong side", "(a & ~tops) - (b | tops)"),
+    ("differences: the second's top bits not held back", "(a | tops) - b"),
+    ("differences: the lower bits of a sum", "(a & ~tops) + (b & ~tops)"),
+    ("differences: the first taken from the second", "(b | tops) - (a & ~tops)"),
+]] + [("differences: in the sum's way", difference_lower, "(a & ~tops) - (b & ~tops)", difference_put, sum_put)]
+edits += [("compute", "I%d %s" % (bits, label), *(
+    text for right, wrong in zip(pairs[::2], pairs[1::2])
+    for text in (right, "tops == %s ? %s : %s" % (mask, wrong, right))))
+          for label, *pairs in tops for bits, mask in ((8, "0x80808080u"), (16, "0x80008000u"))]

@@ -2,6 +2,14 @@
 #include "cases/kernels/misses.h"
 #include "cases/kernels/table.h"
 
+/* Bytes of a lane whose sum or difference may carry; 0 for any other row. */
+static uint32_t lane_bytes(int row)
+{
+    if (row == ROW_VADD_I8 || row == ROW_VSUB_I8)
+        return 1;
+    return row == ROW_VADD_I16 || row == ROW_VSUB_I16 ? 2 : 0;
+}
+
 /* A number that this instruction has an edge at, as its operand 0 or 1. */
 static uint32_t operand_for(struct maker *m, int row, uint32_t which)
 {
@@ -11,19 +19,31 @@ static uint32_t operand_for(struct maker *m, int row, uint32_t which)
 
     if (row == ROW_ABS && mille(m->c, 600))
         return low[below(m->c, 4)];
-    if (table[row].shape == SHAPE_COUNT && mille(m->c, 200))
+    if (table[row].shape == SHAPE_COUNT && mille(m->c, 350))
         return 0;
     if ((row == ROW_SHL || row == ROW_LSR || row == ROW_ASR) && which == 1
         && mille(m->c, 700))
         return shift_amount(m);
+    if (lane_bytes(row) != 0 && mille(m->c, 800))
+        return edge_lanes(m->c, lane_bytes(row));
     return edge_word(m->c);
+}
+
+/* Where a vector comes from. Lanes that may carry come from the window's front,
+ * as few bytes behind it are not 0. */
+static uint32_t vector_place(struct maker *m, int row)
+{
+    enum { FRONT = 9 }; /* places, from 0 on */
+    uint32_t places = m->window - VECTOR_BYTES + 1;
+
+    return below(m->c, lane_bytes(row) != 0 && places > FRONT ? FRONT : places);
 }
 
 /* s5 or s6 (or v5 or v6) from the window, or a number. */
 static void emit_operand(struct maker *m, int row, uint32_t r, int is_vector)
 {
     if (is_vector && m->window >= VECTOR_BYTES && mille(m->c, 500)) {
-        emit_constant(m, 10, below(m->c, m->window - VECTOR_BYTES + 1));
+        emit_constant(m, 10, vector_place(m, row));
         emit(m, word_r(ROW_VLD, r, 10, 0));
         return;
     }
@@ -97,6 +117,10 @@ static void emit_observed(struct maker *m, int row)
     emit(m, observed_word(m, row));
     if (shape == SHAPE_B)
         emit(m, word_i(ROW_ADDI, 7, 7, 1));
+    if (lane_bytes(row) != 0 && mille(m->c, 150)) { /* its first word alone */
+        emit(m, word_r(ROW_VEXTR, 7, 7, 0));
+        vector_result = 0;
+    }
     emit_result(m, 7, vector_result);
 }
 
@@ -130,11 +154,17 @@ static void emit_observed_access(struct maker *m, int row)
  * then a word that just misses the list. */
 void make_brief(struct maker *m)
 {
-    for (int32_t n = between(m->c, 3, 9); n > 0; n--) {
+    static const int lane_rows[4] = {
+        ROW_VADD_I8, ROW_VSUB_I8, ROW_VADD_I16, ROW_VSUB_I16
+    };
+
+    for (int32_t n = between(m->c, 3, 10); n > 0; n--) {
         int row = row_without_branch(m->c);
         m->bad = n == 1 ? 400 : 0; /* what stops comes last */
         if (mille(m->c, 130))
             row = ROW_BEQ + (int)below(m->c, 6);
+        else if (mille(m->c, 190))
+            row = lane_rows[below(m->c, 4)];
         if (row == ROW_MEMBAR)
             emit(m, table[row].match);
         else if ((row >= ROW_LB && row <= ROW_SW) || row == ROW_VLD

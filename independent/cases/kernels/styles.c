@@ -144,10 +144,7 @@ static uint32_t near_limit(struct chance *c, uint32_t limit)
 uint32_t make_kernel(struct chance *c, enum style style, uint32_t window_length,
                      uint32_t limit, uint32_t *code)
 {
-    struct maker m = {
-        .c = c, .code = code, .words = 0, .window = window_length,
-        .address = {0}, .bad = 0, .back = 0
-    };
+    struct maker m = { .c = c, .code = code, .window = window_length };
 
     switch (style) {
     case STYLE_CAREFUL:
