@@ -122,10 +122,6 @@ static void err_unserved(struct turned *t)
         if (idle)
             t->device[HELD + 1] ^= 1;
         break;
-    case 10:
-        if (idle)
-            t->answer = IND_SERVED;
-        break;
     case 11: /* a refusal tells of a ring */
         if (!idle)
             t->report[RING] = 1;
@@ -384,6 +380,8 @@ static void err_turned(struct turned *t)
         err_edition(t);
         err_stops(t);
     }
+    if (MUTANT == 10 && t->answer == IND_IDLE) /* last: those above go by the answer */
+        t->answer = IND_SERVED;
 }
 
 static uint32_t turn(const struct turned *t, size_t device_len,
