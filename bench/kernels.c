@@ -69,3 +69,30 @@ void queue_vector(struct scene *scene, uint32_t threads)
     };
     queue_loop(scene, threads, body);
 }
+
+static void queue_sums(struct scene *scene, uint32_t threads, uint32_t vadd, uint32_t vsub)
+{
+    const uint32_t body[BODY] = {
+        fv_r(FV_VLD, 1, 5, 0),
+        fv_r(vadd, 2, 2, 1),
+        fv_r(vsub, 3, 3, 2),
+        fv_r(vadd, 1, 1, 3),
+        fv_r(FV_VST, 0, 5, 1),
+    };
+    queue_loop(scene, threads, body);
+}
+
+void queue_i32_sums(struct scene *scene, uint32_t threads)
+{
+    queue_sums(scene, threads, FV_VADD(FV_I32), FV_VSUB(FV_I32));
+}
+
+void queue_i16_sums(struct scene *scene, uint32_t threads)
+{
+    queue_sums(scene, threads, FV_VADD(FV_I16), FV_VSUB(FV_I16));
+}
+
+void queue_i8_sums(struct scene *scene, uint32_t threads)
+{
+    queue_sums(scene, threads, FV_VADD(FV_I8), FV_VSUB(FV_I8));
+}

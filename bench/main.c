@@ -39,6 +39,9 @@ static const struct work works[] = {
     {"ALU kernel", "step", THREAD_STEPS, THREADS, 4, queue_alu},
     {"memory kernel", "step", THREAD_STEPS, THREADS, 4, queue_memory},
     {"vector kernel", "step", THREAD_STEPS, THREADS, 4, queue_vector},
+    {"kernel of I32 sums", "step", THREAD_STEPS, THREADS, 4, queue_i32_sums},
+    {"kernel of I16 sums", "step", THREAD_STEPS, THREADS, 4, queue_i16_sums},
+    {"kernel of I8 sums", "step", THREAD_STEPS, THREADS, 4, queue_i8_sums},
 };
 
 enum { SIDES = sizeof sides / sizeof *sides, WORKS = sizeof works / sizeof *works, TRIES = 5 };

@@ -31,5 +31,8 @@ void queue_fill(struct scene *scene, uint32_t rows);
 void queue_alu(struct scene *scene, uint32_t threads);
 void queue_memory(struct scene *scene, uint32_t threads);
 void queue_vector(struct scene *scene, uint32_t threads);
+void queue_i32_sums(struct scene *scene, uint32_t threads);
+void queue_i16_sums(struct scene *scene, uint32_t threads);
+void queue_i8_sums(struct scene *scene, uint32_t threads);
 
 #endif
