@@ -1,4 +1,6 @@
 // The device for programs in C: its state is an image of bytes that the caller keeps.
+#![tactic(auto)]
+
 ghost use Rattle.state.specs.declared.edition.Start.TheVariants.{Edition1, Edition2};
 ghost use Rattle.device.specs.Turn.{call_of};
 ghost use Rattle.capi.specs.Calls.{fresh_call, fresh_with_call, Freshens, turn_call, Leaves};

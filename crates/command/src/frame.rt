@@ -5,7 +5,7 @@ ghost use Rattle.command.specs.Frame.{not_aMultiple, frame_misaligned, frame_out
 use crate::outcome::Outcome;
 use words::choice::one_of;
 
-#[derive(Drop)]
+#[derive(Clone, Copy)]
 pub enum Frame {
     Unset,
     Held { base: u32, stride: u32, format: u32 },

@@ -5,7 +5,7 @@ ghost use Rattle.command.specs.Header.{wait_size, payload_size, target_at, comma
 use crate::flags;
 use memory::peek::{peek_byte, peek_word};
 
-#[derive(Drop)]
+#[derive(Clone, Copy)]
 pub struct Command {
     pub opcode: u8,
     pub flags: u8,

@@ -1,4 +1,6 @@
 // Commands as they are read: the header, the opcode table, the flags, the faults that a header shows, and what is reported.
+#![tactic(auto)]
+
 pub mod faults;
 pub mod flags;
 pub mod frame;

@@ -48,7 +48,7 @@ const OPCODES: [u8; 256] = [
     0, 0, 0, 0, 0, 0, 0, 0, 0, 0, 0, 0, 0, 0, 0, 0,
 ];
 
-#[derive(Drop)]
+#[derive(Clone, Copy)]
 pub struct Row {
     pub known: bool,
     pub payload: bool,

@@ -1,5 +1,7 @@
 // The device held to recorded answers of an independent one: each recorded call is made again, and every part of its
 // answer is compared. Prints how many calls of each kind were made, and how many differ.
+#![tactic(auto)]
+
 mod record;
 mod tally;
 

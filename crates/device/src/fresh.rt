@@ -7,7 +7,7 @@ use state::device::{DEFAULT_LIMIT, Device, Window};
 use state::edition::Start;
 use state::refusal::{Refusal, limit_fits, memory_fits, refusal_number};
 
-#[derive(Drop)]
+#[derive(Clone, Copy)]
 pub enum Making {
     Made,
     Refused(Refusal),

@@ -17,7 +17,7 @@ use work::perform::perform;
 use work::work::Performed;
 
 // What became of a command.
-#[derive(Drop)]
+#[derive(Clone, Copy)]
 pub struct Report {
     pub ring: u32,
     pub outcome: Outcome,
@@ -31,7 +31,7 @@ pub struct Report {
     pub site: Site,
 }
 
-#[derive(Drop)]
+#[derive(Clone, Copy)]
 pub enum Answer {
     Refused(Refusal),
     Idle,

@@ -9,7 +9,7 @@ use memory::access::{Loaded, Width, load};
 use memory::quad::{LoadedQuad, Quad, load_quad};
 use words::arithmetic::add;
 
-#[derive(Drop)]
+#[derive(Clone, Copy)]
 pub enum Effect {
     // To scalar rd.
     Put(u32),

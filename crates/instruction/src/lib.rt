@@ -1,4 +1,6 @@
 // The instruction list: what each word stands for, and what each instruction does to values.
+#![tactic(auto)]
+
 pub mod decode;
 pub mod effect;
 pub mod list;

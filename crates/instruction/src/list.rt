@@ -3,7 +3,7 @@
 use memory::access::Width;
 use words::lanes::{LaneOp, LaneType};
 
-#[derive(Drop)]
+#[derive(Clone, Copy)]
 pub enum AluOp {
     Add,
     Sub,
@@ -18,14 +18,14 @@ pub enum AluOp {
     And,
 }
 
-#[derive(Drop)]
+#[derive(Clone, Copy)]
 pub enum UnaryOp {
     Abs,
     Clz,
     Ctz,
 }
 
-#[derive(Drop)]
+#[derive(Clone, Copy)]
 pub enum Cond {
     Eq,
     Ne,
@@ -35,7 +35,7 @@ pub enum Cond {
     Geu,
 }
 
-#[derive(Drop)]
+#[derive(Clone, Copy)]
 pub enum Op {
     // rd is the operation of rs1 and rs2.
     Alu(AluOp),
@@ -72,7 +72,7 @@ pub enum Op {
     Unlisted,
 }
 
-#[derive(Drop)]
+#[derive(Clone, Copy)]
 pub struct Instr {
     pub op: Op,
     pub rd: u32,

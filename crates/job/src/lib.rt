@@ -1,4 +1,6 @@
 // The replay job: its input taken apart.
+#![tactic(auto)]
+
 mod checks;
 mod kernels;
 pub mod parse;

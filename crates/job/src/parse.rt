@@ -9,7 +9,7 @@ use crate::sections::{Sections, sections_of};
 
 pub const MOST_BYTES: usize = 61440;
 
-#[derive(Drop)]
+#[derive(Clone, Copy)]
 pub enum Parsed {
     Accepted(Job),
     // The number of the first section that is too short or faulty; 0 for too many bytes, 9 for bytes left over.

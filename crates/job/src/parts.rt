@@ -6,20 +6,20 @@ use crate::section::Section;
 use crate::sections::Sections;
 use memory::peek::peek_word;
 
-#[derive(Drop)]
+#[derive(Clone, Copy)]
 pub struct Window {
     pub start: u32,
     pub length: u32,
 }
 
 // Bytes of the input, from `start` up to `end`.
-#[derive(Drop)]
+#[derive(Clone, Copy)]
 pub struct Part {
     pub start: usize,
     pub end: usize,
 }
 
-#[derive(Drop)]
+#[derive(Clone, Copy)]
 pub struct Job {
     pub window0: Window,
     pub window1: Window,

@@ -4,7 +4,7 @@ ghost use Rattle.job.specs.Section.{section_at, is_whole};
 
 use memory::peek::peek_word;
 
-#[derive(Drop)]
+#[derive(Clone, Copy)]
 pub struct Section {
     // Where its content starts.
     pub start: usize,

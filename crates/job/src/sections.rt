@@ -10,7 +10,7 @@ const WORD: usize = 4;
 
 const PAIR: usize = 8;
 
-#[derive(Drop)]
+#[derive(Clone, Copy)]
 pub struct Sections {
     pub windows: Section,
     pub ring0: Section,

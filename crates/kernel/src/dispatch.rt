@@ -8,7 +8,7 @@ use crate::thread::Thread;
 use pack::kernels::{Kernel, kernel_at};
 
 // A thread's stop: why, where the thread stood, in bytes from the kernel's start, its group and its number in the group.
-#[derive(Drop)]
+#[derive(Clone, Copy)]
 pub struct ThreadStop {
     pub why: Stop,
     pub place: u32,
@@ -16,7 +16,7 @@ pub struct ThreadStop {
     pub thread: u32,
 }
 
-#[derive(Drop)]
+#[derive(Clone, Copy)]
 pub enum Ran {
     // Each thread came to its end.
     Done,

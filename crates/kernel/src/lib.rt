@@ -1,4 +1,6 @@
 // Kernels: the registers, a thread's steps, and a dispatch.
+#![tactic(auto)]
+
 pub mod dispatch;
 pub mod registers;
 pub mod run;

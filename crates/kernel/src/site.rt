@@ -5,7 +5,7 @@ ghost use Rattle.kernel.specs.Site.{no_site, address_of, site_of};
 use crate::dispatch::Ran;
 use crate::step::Stop;
 
-#[derive(Drop)]
+#[derive(Clone, Copy)]
 pub struct Site {
     // The first address that is not inside the window, of a load or store that reached it; else 0.
     pub address: u32,

@@ -14,7 +14,7 @@ use words::arithmetic::add;
 use words::choice::both;
 
 // Why a thread stopped before its end.
-#[derive(Drop)]
+#[derive(Clone, Copy)]
 pub enum Stop {
     // The word is not in the instruction list.
     NotListed,
@@ -26,7 +26,7 @@ pub enum Stop {
     OutOfSteps,
 }
 
-#[derive(Drop)]
+#[derive(Clone, Copy)]
 pub enum Progress {
     Running,
     Ended,

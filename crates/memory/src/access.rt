@@ -7,14 +7,14 @@ use crate::address::{Reach, test};
 use crate::place::{half_at, put_byte, put_half, put_word, word_at};
 use words::signed::extend;
 
-#[derive(Drop)]
+#[derive(Clone, Copy)]
 pub enum Width {
     Byte,
     Half,
     Word,
 }
 
-#[derive(Drop)]
+#[derive(Clone, Copy)]
 pub enum Loaded {
     Value(u32),
     // The first address that is not inside.
@@ -31,6 +31,7 @@ fn bytes_of(width: Width) -> usize
     }
 }
 
+#[tactic(auto, unfolding(crate::specs::Access::value_at))]
 fn value_at(window: &[u8], width: Width, at: usize) -> u32
     requires { at + bytes_of width ≤ length window.now }
     ensures { result ≡ value_at window.now width at }
@@ -42,6 +43,7 @@ fn value_at(window: &[u8], width: Width, at: usize) -> u32
     }
 }
 
+#[tactic(auto, unfolding(crate::specs::Access::with_value))]
 fn put_value(window: &mut [u8], width: Width, at: usize, value: u32)
     requires { at + bytes_of width ≤ length window.old }
     ensures { window.new ≡ with_value window.old width at value }
@@ -53,6 +55,7 @@ fn put_value(window: &mut [u8], width: Width, at: usize, value: u32)
     }
 }
 
+#[tactic(auto, unfolding(crate::specs::Access::load_of, crate::specs::Address::if_inside))]
 pub fn load(window: &[u8], width: Width, address: u32) -> Loaded
     ensures { result ≡ load_of window.now width address }
 {
@@ -62,6 +65,7 @@ pub fn load(window: &[u8], width: Width, address: u32) -> Loaded
     }
 }
 
+#[tactic(auto, unfolding(crate::specs::Access::store_of, crate::specs::Address::if_inside))]
 pub fn store(window: &mut [u8], width: Width, address: u32, value: u32) -> Reach
     ensures { (result ≡ reach_of (length window.old) address (bytes_of width)) × (window.new ≡ store_of window.old width address value) }
 {

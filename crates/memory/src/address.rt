@@ -2,7 +2,7 @@
 ghost use Rattle.std.specs.Prelude.{◌≡◌};
 ghost use Rattle.memory.specs.Address.{first_outside, reach_of};
 
-#[derive(Drop)]
+#[derive(Clone, Copy)]
 pub enum Reach {
     Inside,
     // The first address that is not inside.
@@ -10,6 +10,7 @@ pub enum Reach {
 }
 
 // The first address that is not inside, of an access that is not wholly so.
+#[tactic(auto, unfolding(crate::specs::Address::first_outside))]
 fn first_outside(length: usize, address: u32) -> u32
     ensures { result ≡ first_outside length address }
 {

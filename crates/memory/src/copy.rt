@@ -26,6 +26,7 @@ pub fn copy(window: &mut [u8], to: usize, from: usize, words: usize)
     }
 }
 
+#[tactic(auto, unfolding(crate::specs::Copy::blitted))]
 pub fn blit(window: &mut [u8], to: usize, from: usize, stride: usize, width: usize, height: usize)
     requires { (rectangle_end to stride width height ≤ length window.old) × (rectangle_end from stride width height ≤ length window.old) × RowsApart stride width height }
     ensures { window.new ≡ blitted to from stride width height window.old }

@@ -1,4 +1,6 @@
 // Everything that touches a lent window of bytes. Addresses count from its start.
+#![tactic(auto)]
+
 pub mod access;
 pub mod address;
 pub mod copy;

@@ -10,6 +10,7 @@ pub fn peek_byte(bytes: &[u8], at: usize) -> u8
     if at < bytes.len() { bytes[at] } else { 0 }
 }
 
+#[tactic(auto, unfolding(crate::specs::Place::word_at))]
 pub fn peek_word(bytes: &[u8], at: usize) -> u32
     ensures { result ≡ word_at bytes.now at }
 {

@@ -4,6 +4,7 @@ ghost use Rattle.memory.specs.Place.{half_at, word_at, with_byte, with_half, wit
 
 use words::bytes::{half, word, word_bytes};
 
+#[tactic(auto, unfolding(crate::specs::Place::half_at))]
 pub fn half_at(window: &[u8], at: usize) -> u32
     requires { at + 2 ≤ length window.now }
     ensures { result ≡ half_at window.now at }
@@ -13,6 +14,7 @@ pub fn half_at(window: &[u8], at: usize) -> u32
     half(b0, b1)
 }
 
+#[tactic(auto, unfolding(crate::specs::Place::word_at))]
 pub fn word_at(window: &[u8], at: usize) -> u32
     requires { at + 4 ≤ length window.now }
     ensures { result ≡ word_at window.now at }
@@ -24,6 +26,7 @@ pub fn word_at(window: &[u8], at: usize) -> u32
     word(b0, b1, b2, b3)
 }
 
+#[tactic(auto, unfolding(crate::specs::Place::with_byte))]
 pub fn put_byte(window: &mut [u8], at: usize, value: u32)
     requires { at + 1 ≤ length window.old }
     ensures { window.new ≡ with_byte window.old at value }
@@ -32,6 +35,7 @@ pub fn put_byte(window: &mut [u8], at: usize, value: u32)
     window[at] = b.b0;
 }
 
+#[tactic(auto, unfolding(crate::specs::Place::with_half))]
 pub fn put_half(window: &mut [u8], at: usize, value: u32)
     requires { at + 2 ≤ length window.old }
     ensures { window.new ≡ with_half window.old at value }
@@ -41,6 +45,7 @@ pub fn put_half(window: &mut [u8], at: usize, value: u32)
     window[at + 1] = b.b1;
 }
 
+#[tactic(auto, unfolding(crate::specs::Place::with_word))]
 pub fn put_word(window: &mut [u8], at: usize, value: u32)
     requires { at + 4 ≤ length window.old }
     ensures { window.new ≡ with_word window.old at value }

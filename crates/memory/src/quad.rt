@@ -6,7 +6,7 @@ ghost use Rattle.memory.specs.Quad.{quad_at, with_quad, load_quad_of, store_quad
 use crate::address::{Reach, test};
 use crate::place::{put_word, word_at};
 
-#[derive(Drop)]
+#[derive(Clone, Copy)]
 pub struct Quad {
     pub w0: u32,
     pub w1: u32,
@@ -14,13 +14,14 @@ pub struct Quad {
     pub w3: u32,
 }
 
-#[derive(Drop)]
+#[derive(Clone, Copy)]
 pub enum LoadedQuad {
     Words(Quad),
     // The first address that is not inside.
     Outside(u32),
 }
 
+#[tactic(auto, unfolding(crate::specs::Quad::quad_at))]
 fn quad_at(window: &[u8], at: usize) -> Quad
     requires { at + 16 ≤ length window.now }
     ensures { result ≡ quad_at window.now at }
@@ -33,6 +34,7 @@ fn quad_at(window: &[u8], at: usize) -> Quad
     }
 }
 
+#[tactic(auto, unfolding(crate::specs::Quad::with_quad))]
 fn put_quad(window: &mut [u8], at: usize, quad: Quad)
     requires { at + 16 ≤ length window.old }
     ensures { window.new ≡ with_quad window.old at quad }
@@ -43,6 +45,7 @@ fn put_quad(window: &mut [u8], at: usize, quad: Quad)
     put_word(window, at + 12, quad.w3);
 }
 
+#[tactic(auto, unfolding(crate::specs::Quad::load_quad_of, crate::specs::Address::if_inside))]
 pub fn load_quad(window: &[u8], address: u32) -> LoadedQuad
     ensures { result ≡ load_quad_of window.now address }
 {
@@ -52,6 +55,7 @@ pub fn load_quad(window: &[u8], address: u32) -> LoadedQuad
     }
 }
 
+#[tactic(auto, unfolding(crate::specs::Quad::store_quad_of, crate::specs::Address::if_inside))]
 pub fn store_quad(window: &mut [u8], address: u32, quad: Quad) -> Reach
     ensures { (result ≡ reach_of (length window.old) address 16) × (window.new ≡ store_quad_of window.old address quad) }
 {

@@ -13,6 +13,7 @@ fn fill_row(window: &mut [u8], address: usize, width: usize, color: u32)
     }
 }
 
+#[tactic(auto, unfolding(crate::specs::Rectangle::filled))]
 pub fn fill(
     window: &mut [u8],
     address: usize,

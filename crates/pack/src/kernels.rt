@@ -13,7 +13,7 @@ pub const MOST_CODE: u32 = 16384;
 const PAIRS_START: usize = 4;
 
 // The bytes of the pack that are a kernel's code.
-#[derive(Drop)]
+#[derive(Clone, Copy)]
 pub struct Kernel {
     pub start: usize,
     pub length: usize,

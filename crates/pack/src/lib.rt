@@ -1,2 +1,4 @@
 // The kernel pack: which kernels it holds, and whether it is faulty.
+#![tactic(auto)]
+
 pub mod kernels;

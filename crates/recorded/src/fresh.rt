@@ -11,7 +11,7 @@ use state::edition::Start;
 use words::choice::both;
 
 // What a making names beside the windows: nothing, a limit, or a limit and edition 2's starting number.
-#[derive(Drop)]
+#[derive(Clone, Copy)]
 pub enum Named {
     Nothing,
     Limit,

@@ -1,5 +1,7 @@
 // The replay job: reads standard input, plays its rings on a fresh device until it is idle, and prints a line for
 // each turn. What it prints is the text of `play::transcribe`.
+#![tactic(auto)]
+
 use libc::STDOUT_FILENO;
 
 mod play;

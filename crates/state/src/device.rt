@@ -10,13 +10,13 @@ use command::frame::Frame;
 pub const DEFAULT_LIMIT: u32 = 16384;
 
 // A ring's part of the memory.
-#[derive(Drop)]
+#[derive(Clone, Copy)]
 pub struct Window {
     pub start: u32,
     pub length: u32,
 }
 
-#[derive(Drop)]
+#[derive(Clone, Copy)]
 pub struct Ring {
     pub window: Window,
     pub cursor: u32,

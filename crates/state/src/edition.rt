@@ -2,14 +2,14 @@
 ghost use Rattle.std.specs.Prelude.{◌≡◌};
 ghost use Rattle.state.specs.Edition.{edition_of, first_of};
 
-#[derive(Drop)]
+#[derive(Clone, Copy)]
 pub enum Edition {
     One,
     Two,
 }
 
 // Edition 2 comes with one starting number for all slots.
-#[derive(Drop)]
+#[derive(Clone, Copy)]
 pub enum Start {
     Edition1,
     Edition2(u32),

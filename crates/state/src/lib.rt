@@ -1,4 +1,6 @@
 // What a turn goes by: the device's state, its edition, slots and counts, the refusals of a call, and which ring is ready.
+#![tactic(auto)]
+
 pub mod counts;
 pub mod device;
 pub mod edition;

@@ -11,7 +11,7 @@ use command::header::{Command, command_at, is_whole};
 use command::outcome::is_done;
 use words::choice::{both, one_of};
 
-#[derive(Drop)]
+#[derive(Clone, Copy)]
 pub enum Picked {
     Ring(u32),
     Nobody,

@@ -9,7 +9,7 @@ use command::outcome::is_done;
 use pack::kernels::is_sound;
 use words::choice::both;
 
-#[derive(Drop)]
+#[derive(Clone, Copy)]
 pub enum Refusal {
     // 101: memory too long, or a window outside it or not in multiples of 4.
     Memory,
@@ -24,7 +24,7 @@ pub enum Refusal {
     Pack,
 }
 
-#[derive(Drop)]
+#[derive(Clone, Copy)]
 pub enum Verdict {
     Sound,
     Refused(Refusal),

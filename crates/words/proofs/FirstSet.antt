@@ -18,6 +18,10 @@ at_set : (b : ℕ → ℕ) (n : ℕ) → 0 < b 0 → first_set b (suc n) ≡ 0
 unfolding first_set
 at_set b n p = rw (ne_eqb (b 0) 0 (λ e. omega arith))
 
+clear_more : (b : ℕ → ℕ) (r : ℕ) → b 0 ≡ 0 → ((i : ℕ) → i < r → b (suc i) ≡ 0) → (i : ℕ) → i < suc r → b i ≡ 0
+clear_more b r e clear zero h = e
+clear_more b r e clear (suc i) h = clear i (le_of_suc-le-suc h)
+
 pub first : (b : ℕ → ℕ) (n : ℕ) → First b n (first_set b n)
 unfolding first_set
 first b zero = record { within = zero-le; clear = λ i h. absurd (not-suc-le-zero h); set = λ h. absurd (lt_irrefl 0 h) }
@@ -28,7 +32,7 @@ first b (suc n) = go (first (λ i. b (suc i)) n) (eq-zero-or-pos (b 0))
         rw (after_clear b n e)
         (record {
           within = suc-le-suc ih.within;
-          clear = λ i. elim i [ zero ↦ (λ h. e) | suc j ↦ (λ h. ih.clear j (le_of_suc-le-suc h)) ];
+          clear = clear_more b (first_set (λ i. b (suc i)) n) e ih.clear;
           set = λ h. ih.set (le_of_suc-le-suc h);
         })
     go ih (inr p) = rw (at_set b n p) (record { within = zero-le; clear = λ i h. absurd (not-suc-le-zero h); set = λ h. p })

@@ -34,6 +34,7 @@ pub fn lsr(a: u32, b: u32) -> u32
     a >> (b % 32)
 }
 
+#[tactic(auto, unfolding(crate::specs::Arithmetic::shifted_signed))]
 pub fn asr(a: u32, b: u32) -> u32
     ensures { result ≡ shifted_signed a b }
 {
@@ -44,18 +45,21 @@ pub fn asr(a: u32, b: u32) -> u32
     }
 }
 
+#[tactic(auto, unfolding(crate::specs::Arithmetic::least))]
 pub fn min(a: u32, b: u32) -> u32
     ensures { result ≡ least a b }
 {
     if below_signed(a, b) { a } else { b }
 }
 
+#[tactic(auto, unfolding(crate::specs::Arithmetic::greatest))]
 pub fn max(a: u32, b: u32) -> u32
     ensures { result ≡ greatest a b }
 {
     if below_signed(a, b) { b } else { a }
 }
 
+#[tactic(auto, unfolding(crate::specs::Arithmetic::magnitude))]
 pub fn abs(a: u32) -> u32
     ensures { result ≡ magnitude a }
 {

@@ -6,6 +6,7 @@ ghost use Rattle.words.specs.Lanes.{lane_bits, lane_count, lanewise, lanes_of};
 use crate::lanes::{LaneOp, LaneType};
 
 // In each lane all bits but the top one.
+#[tactic(auto, unfolding(crate::specs::Lanes::lanewise))]
 fn below_tops(ty: LaneType) -> u32
     ensures { result ≡ lanewise (λ _ _. 2 ^ (lane_bits ty - 1) - 1) (lane_bits ty) (lane_count ty) 0 0 }
 {

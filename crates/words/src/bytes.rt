@@ -2,7 +2,7 @@
 ghost use Rattle.std.specs.Prelude.{◌≡◌};
 ghost use Rattle.words.specs.Bytes.{half_of, word_of, byte_of};
 
-#[derive(Drop)]
+#[derive(Clone, Copy)]
 pub struct WordBytes {
     pub b0: u8,
     pub b1: u8,

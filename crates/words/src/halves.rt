@@ -2,7 +2,7 @@
 ghost use Rattle.std.specs.Prelude.{◌≡◌};
 ghost use Rattle.words.specs.Halves.{word_half, word_of_halves};
 
-#[derive(Drop)]
+#[derive(Clone, Copy)]
 pub struct WordHalves {
     pub h0: u16,
     pub h1: u16,

@@ -4,7 +4,7 @@ ghost use Rattle.words.specs.Lanes.{lanes_of};
 
 use crate::{arithmetic, bitwise, lanes8, lanes16};
 
-#[derive(Drop)]
+#[derive(Clone, Copy)]
 pub enum LaneOp {
     Add,
     Sub,
@@ -14,7 +14,7 @@ pub enum LaneOp {
     Mul,
 }
 
-#[derive(Drop)]
+#[derive(Clone, Copy)]
 pub enum LaneType {
     I32,
     I16,

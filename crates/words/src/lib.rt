@@ -1,4 +1,6 @@
 // Every number rule that the device needs, as pure functions.
+#![tactic(auto)]
+
 pub mod arithmetic;
 pub mod at_once;
 pub mod bitwise;

@@ -21,6 +21,7 @@ fn bias(w: u32) -> u32
     std::num::wrapping_add_u32(w, 0x8000_0000)
 }
 
+#[tactic(auto, unfolding(crate::specs::Signed::below_signed))]
 pub fn below_signed(a: u32, b: u32) -> bool
     ensures { result ≡ below_signed a b }
 {

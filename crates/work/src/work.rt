@@ -20,7 +20,7 @@ use memory::copy;
 use memory::rectangle::fill;
 use memory::transfer::{read_words, write_words};
 
-#[derive(Drop)]
+#[derive(Clone, Copy)]
 pub struct Performed {
     pub outcome: Outcome,
     pub frame: Frame,
