@@ -8,6 +8,7 @@ use crate::outcome::Outcome;
 use crate::table::row_of;
 use words::choice::{both, differing, one_of};
 
+#[tactic(auto, unfolding(crate::specs::Faults::unknown_opcode))]
 fn is_unknown(command: Command) -> bool
     ensures { result ≡ unknown_opcode command }
 {
@@ -15,6 +16,7 @@ fn is_unknown(command: Command) -> bool
     !row.known
 }
 
+#[tactic(auto, unfolding(crate::specs::Faults::wrong_payload_bit))]
 fn has_wrong_payload_bit(command: Command) -> bool
     ensures { result ≡ wrong_payload_bit command }
 {
@@ -22,6 +24,7 @@ fn has_wrong_payload_bit(command: Command) -> bool
     differing(flags::payload(command.flags), row.payload)
 }
 
+#[tactic(auto, unfolding(crate::specs::Faults::no_such_slot))]
 fn names_no_slot(command: Command) -> bool
     ensures { result ≡ no_such_slot command }
 {
@@ -30,6 +33,7 @@ fn names_no_slot(command: Command) -> bool
 }
 
 // The smallest that applies.
+#[tactic(auto, unfolding(crate::specs::Faults::header_fault))]
 pub fn header_fault(command: Command) -> Outcome
     ensures { result ≡ header_fault command }
 {

@@ -17,6 +17,7 @@ pub fn not_a_multiple(x: u32) -> bool
     x % 4 != 0
 }
 
+#[tactic(auto, unfolding(crate::specs::Frame::frame_misaligned))]
 pub fn frame_misaligned(base: u32, stride: u32) -> bool
     ensures { result ≡ frame_misaligned base stride }
 {
@@ -29,12 +30,14 @@ pub fn frame_outside(base: u32, length: usize) -> bool
     length <= base as usize
 }
 
+#[tactic(auto, unfolding(crate::specs::Frame::frame_unfit))]
 pub fn frame_unfit(stride: u32, format: u32) -> bool
     ensures { result ≡ frame_unfit stride format }
 {
     one_of(one_of(stride < 4, 65536 < stride), format != 0)
 }
 
+#[tactic(auto, unfolding(crate::specs::Frame::frame_fault))]
 pub fn frame_fault(base: u32, stride: u32, format: u32, length: usize) -> Outcome
     ensures { result ≡ frame_fault base stride format length }
 {
@@ -51,6 +54,7 @@ pub fn frame_fault(base: u32, stride: u32, format: u32, length: usize) -> Outcom
 }
 
 // The same test of a frame that a ring has; an unset frame passes it.
+#[tactic(auto, unfolding(crate::specs::Frame::held_fault))]
 pub fn held_fault(frame: Frame, length: usize) -> Outcome
     ensures { result ≡ held_fault frame length }
 {

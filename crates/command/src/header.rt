@@ -21,12 +21,14 @@ pub struct Command {
     pub size: usize,
 }
 
+#[tactic(auto, unfolding(crate::specs::Header::wait_size))]
 fn wait_size(flags: u8) -> usize
     ensures { result ≡ wait_size flags }
 {
     if flags::wait(flags) { 4 } else { 0 }
 }
 
+#[tactic(auto, unfolding(crate::specs::Header::payload_size))]
 fn payload_size(flags: u8, len: u8) -> usize
     ensures { result ≡ payload_size flags len }
 {
@@ -37,6 +39,7 @@ fn payload_size(flags: u8, len: u8) -> usize
     }
 }
 
+#[tactic(auto, unfolding(crate::specs::Header::target_at))]
 fn target_at(ring: &[u8], cursor: usize, flags: u8) -> u32
     requires { cursor ≤ 65536 }
     ensures { result ≡ target_at ring.now cursor flags }
@@ -49,6 +52,7 @@ fn target_at(ring: &[u8], cursor: usize, flags: u8) -> u32
 }
 
 // Any bytes are a command; a byte past the ring's end reads 0.
+#[tactic(auto, unfolding(crate::specs::Header::command_at))]
 pub fn command_at(ring: &[u8], cursor: usize) -> Command
     requires { cursor ≤ 65536 }
     ensures { result ≡ command_at ring.now cursor }
@@ -71,6 +75,7 @@ pub fn command_at(ring: &[u8], cursor: usize) -> Command
 }
 
 // Whether all of the command at the cursor, which the caller has read, is there.
+#[tactic(auto, unfolding(crate::specs::Header::is_whole))]
 pub fn is_whole(ring: &[u8], cursor: usize, command: Command) -> bool
     requires { (cursor ≤ 65536) × (command ≡ command_at ring.now cursor) }
     ensures { result ≡ is_whole ring.now cursor }

@@ -8,6 +8,7 @@ use crate::{flags, opcode};
 use words::choice::{both, one_of};
 
 // Whether it adds 1 to its slot.
+#[tactic(auto, unfolding(crate::specs::Report::emits))]
 pub fn emits_fence(command: Command, outcome: Outcome) -> bool
     ensures { result ≡ emits command outcome }
 {
@@ -16,6 +17,7 @@ pub fn emits_fence(command: Command, outcome: Outcome) -> bool
 }
 
 // Whether it raises an IRQ.
+#[tactic(auto, unfolding(crate::specs::Report::interrupts))]
 pub fn raises_irq(command: Command, outcome: Outcome) -> bool
     ensures { result ≡ interrupts command outcome }
 {
@@ -23,6 +25,7 @@ pub fn raises_irq(command: Command, outcome: Outcome) -> bool
     both(flags::irq(command.flags), one_of(n == 0, 5 <= n))
 }
 
+#[tactic(auto, unfolding(crate::specs::Report::words_read))]
 pub fn words_read(command: Command, outcome: Outcome) -> u32
     ensures { result ≡ words_read command outcome }
 {

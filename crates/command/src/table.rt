@@ -56,6 +56,7 @@ pub struct Row {
     pub address1: bool,
 }
 
+#[tactic(auto, unfolding(crate::specs::Table::entry_of, crate::specs::Table::row_of, words::specs::Choice::all_below))]
 fn entry(opcode: u8) -> u8
     ensures { result ≡ entry_of (row_of opcode) }
 {

@@ -43,12 +43,14 @@ fn store(w: u32) -> Op
     rows::store_row(fields::funct3(w), fields::imm_s(w))
 }
 
+#[tactic(auto, unfolding(crate::specs::Decode::unused_is0))]
 fn if_unused(unused: u32, op: Op) -> Op
     ensures { result ≡ unused_is0 unused op }
 {
     if unused == 0 { op } else { Op::Unlisted }
 }
 
+#[tactic(auto, unfolding(crate::specs::Decode::vector_of))]
 fn vector(w: u32) -> Op
     ensures { result ≡ vector_of w }
 {
@@ -62,6 +64,7 @@ fn vector(w: u32) -> Op
     if_unused(fields::bit25(w), op)
 }
 
+#[tactic(auto, unfolding(crate::specs::Decode::transfer_of))]
 fn transfer(w: u32) -> Op
     ensures { result ≡ transfer_of w }
 {
@@ -69,6 +72,7 @@ fn transfer(w: u32) -> Op
     if_unused(fields::funct7(w), if_unused(fields::rs2(w), op))
 }
 
+#[tactic(auto, unfolding(crate::specs::Decode::vld_of))]
 fn vld(w: u32) -> Op
     ensures { result ≡ vld_of w }
 {
@@ -76,6 +80,7 @@ fn vld(w: u32) -> Op
     if_unused(fields::funct7(w), if_unused(fields::rs2(w), op))
 }
 
+#[tactic(auto, unfolding(crate::specs::Decode::vst_of))]
 fn vst(w: u32) -> Op
     ensures { result ≡ vst_of w }
 {
@@ -83,6 +88,7 @@ fn vst(w: u32) -> Op
     if_unused(fields::funct7(w), if_unused(fields::rd(w), op))
 }
 
+#[tactic(auto, unfolding(crate::specs::Decode::op_of))]
 fn operation(w: u32) -> Op
     ensures { result ≡ op_of w }
 {
@@ -103,6 +109,7 @@ fn operation(w: u32) -> Op
     }
 }
 
+#[tactic(auto, unfolding(crate::specs::Decode::decoded))]
 pub fn decode(w: u32) -> Instr
     ensures { result ≡ decoded w }
 {

@@ -30,6 +30,7 @@ pub enum Effect {
     Outside(u32),
 }
 
+#[tactic(auto, unfolding(crate::specs::Effect::loaded_effect))]
 fn loaded_effect(loaded: Loaded) -> Effect
     ensures { result ≡ loaded_effect loaded }
 {
@@ -39,6 +40,7 @@ fn loaded_effect(loaded: Loaded) -> Effect
     }
 }
 
+#[tactic(auto, unfolding(crate::specs::Effect::loaded_quad_effect))]
 fn loaded_quad_effect(vd: u32, loaded: LoadedQuad) -> Effect
     ensures { result ≡ loaded_quad_effect vd loaded }
 {
@@ -48,6 +50,7 @@ fn loaded_quad_effect(vd: u32, loaded: LoadedQuad) -> Effect
     }
 }
 
+#[tactic(auto, unfolding(crate::specs::Effect::branch_effect))]
 fn branch_effect(cond: Cond, offset: u32, x: u32, y: u32) -> Effect
     ensures { result ≡ branch_effect cond offset x y }
 {
@@ -59,6 +62,7 @@ fn branch_effect(cond: Cond, offset: u32, x: u32, y: u32) -> Effect
 }
 
 // x is rs1's value and y is rs2's.
+#[tactic(auto, unfolding(crate::specs::Effect::effect_of))]
 pub fn effect_of(op: Op, x: u32, y: u32, vectors: &[u32; 128], window: &[u8]) -> Effect
     ensures { result ≡ effect_of op x y vectors.now window.now }
 {

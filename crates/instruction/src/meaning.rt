@@ -5,6 +5,7 @@ ghost use Rattle.instruction.specs.Meaning.{alu_of, unary_of, holds_of};
 use crate::list::{AluOp, Cond, UnaryOp};
 use words::{arithmetic, bitwise, compare, counts, signed};
 
+#[tactic(auto, unfolding(crate::specs::Meaning::alu_of))]
 pub fn alu(op: AluOp, x: u32, y: u32) -> u32
     ensures { result ≡ alu_of op x y }
 {
@@ -23,6 +24,7 @@ pub fn alu(op: AluOp, x: u32, y: u32) -> u32
     }
 }
 
+#[tactic(auto, unfolding(crate::specs::Meaning::unary_of))]
 pub fn unary(op: UnaryOp, x: u32) -> u32
     ensures { result ≡ unary_of op x }
 {
@@ -33,6 +35,7 @@ pub fn unary(op: UnaryOp, x: u32) -> u32
     }
 }
 
+#[tactic(auto, unfolding(crate::specs::Meaning::holds_of))]
 pub fn holds(cond: Cond, x: u32, y: u32) -> bool
     ensures { result ≡ holds_of cond x y }
 {

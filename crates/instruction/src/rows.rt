@@ -6,6 +6,7 @@ use crate::list::{AluOp, Cond, Op, UnaryOp};
 use memory::access::Width;
 use words::lanes::{LaneOp, LaneType};
 
+#[tactic(auto, unfolding(crate::specs::Rows::plain_row))]
 fn plain_row(funct3: u32, rs2: u32) -> Op
     ensures { result ≡ plain_row funct3 rs2 }
 {
@@ -28,6 +29,7 @@ fn plain_row(funct3: u32, rs2: u32) -> Op
     }
 }
 
+#[tactic(auto, unfolding(crate::specs::Rows::other_row))]
 fn other_row(funct3: u32) -> Op
     ensures { result ≡ other_row funct3 }
 {
@@ -38,6 +40,7 @@ fn other_row(funct3: u32) -> Op
     }
 }
 
+#[tactic(auto, unfolding(crate::specs::Rows::product_row))]
 fn product_row(funct3: u32) -> Op
     ensures { result ≡ product_row funct3 }
 {
@@ -47,6 +50,7 @@ fn product_row(funct3: u32) -> Op
     }
 }
 
+#[tactic(auto, unfolding(crate::specs::Rows::count_row))]
 fn count_row(funct3: u32) -> Op
     ensures { result ≡ count_row funct3 }
 {
@@ -57,6 +61,7 @@ fn count_row(funct3: u32) -> Op
     }
 }
 
+#[tactic(auto, unfolding(crate::specs::Rows::scalar_row))]
 pub fn scalar_row(funct7: u32, funct3: u32, rs2: u32) -> Op
     ensures { result ≡ scalar_row funct7 funct3 rs2 }
 {
@@ -69,6 +74,7 @@ pub fn scalar_row(funct7: u32, funct3: u32, rs2: u32) -> Op
     }
 }
 
+#[tactic(auto, unfolding(crate::specs::Rows::immediate_row))]
 pub fn immediate_row(funct3: u32, high: u32, shamt: u32, imm: u32) -> Op
     ensures { result ≡ immediate_row funct3 high shamt imm }
 {
@@ -97,6 +103,7 @@ pub fn immediate_row(funct3: u32, high: u32, shamt: u32, imm: u32) -> Op
     }
 }
 
+#[tactic(auto, unfolding(crate::specs::Rows::branch_row))]
 pub fn branch_row(funct3: u32, offset: u32) -> Op
     ensures { result ≡ branch_row funct3 offset }
 {
@@ -111,6 +118,7 @@ pub fn branch_row(funct3: u32, offset: u32) -> Op
     }
 }
 
+#[tactic(auto, unfolding(crate::specs::Rows::load_row))]
 pub fn load_row(funct3: u32, imm: u32) -> Op
     ensures { result ≡ load_row funct3 imm }
 {
@@ -122,6 +130,7 @@ pub fn load_row(funct3: u32, imm: u32) -> Op
     }
 }
 
+#[tactic(auto, unfolding(crate::specs::Rows::store_row))]
 pub fn store_row(funct3: u32, imm: u32) -> Op
     ensures { result ≡ store_row funct3 imm }
 {
@@ -133,6 +142,7 @@ pub fn store_row(funct3: u32, imm: u32) -> Op
     }
 }
 
+#[tactic(auto, unfolding(crate::specs::Rows::system_row))]
 pub fn system_row(w: u32) -> Op
     ensures { result ≡ system_row w }
 {
@@ -143,6 +153,7 @@ pub fn system_row(w: u32) -> Op
     }
 }
 
+#[tactic(auto, unfolding(crate::specs::Rows::lane_row))]
 fn lane_row(op: LaneOp, funct3: u32, vd: u32, v1: u32, v2: u32) -> Op
     ensures { result ≡ lane_row op funct3 vd v1 v2 }
 {
@@ -172,6 +183,7 @@ fn lane_row(op: LaneOp, funct3: u32, vd: u32, v1: u32, v2: u32) -> Op
     }
 }
 
+#[tactic(auto, unfolding(crate::specs::Rows::vector_row))]
 pub fn vector_row(funct6: u32, funct3: u32, vd: u32, v1: u32, v2: u32) -> Op
     ensures { result ≡ vector_row funct6 funct3 vd v1 v2 }
 {
@@ -186,6 +198,7 @@ pub fn vector_row(funct6: u32, funct3: u32, vd: u32, v1: u32, v2: u32) -> Op
     }
 }
 
+#[tactic(auto, unfolding(crate::specs::Rows::transfer_row))]
 pub fn transfer_row(funct3: u32, rd: u32, rs1: u32) -> Op
     ensures { result ≡ transfer_row funct3 rd rs1 }
 {
@@ -196,6 +209,7 @@ pub fn transfer_row(funct3: u32, rd: u32, rs1: u32) -> Op
     }
 }
 
+#[tactic(auto, unfolding(crate::specs::Rows::vld_row))]
 pub fn vld_row(funct3: u32, rd: u32) -> Op
     ensures { result ≡ vld_row funct3 rd }
 {
@@ -205,6 +219,7 @@ pub fn vld_row(funct3: u32, rd: u32) -> Op
     }
 }
 
+#[tactic(auto, unfolding(crate::specs::Rows::vst_row))]
 pub fn vst_row(funct3: u32, rs2: u32) -> Op
     ensures { result ≡ vst_row funct3 rs2 }
 {

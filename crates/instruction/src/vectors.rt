@@ -5,6 +5,7 @@ ghost use Rattle.instruction.specs.Vectors.{quad_of, with_quad, lanes_of_quads, 
 use memory::quad::Quad;
 use words::lanes::{LaneOp, LaneType, lanes};
 
+#[tactic(auto, unfolding(crate::specs::Vectors::quad_of))]
 pub fn quad(vectors: &[u32; 128], n: u32) -> Quad
     ensures { result ≡ quad_of vectors.now (n % 32) }
 {
@@ -17,6 +18,7 @@ pub fn quad(vectors: &[u32; 128], n: u32) -> Quad
     }
 }
 
+#[tactic(auto, unfolding(crate::specs::Vectors::with_quad))]
 pub fn with_quad(mut vectors: [u32; 128], n: u32, quad: Quad) -> [u32; 128]
     ensures { result ≡ with_quad vectors (n % 32) quad }
 {
@@ -29,6 +31,7 @@ pub fn with_quad(mut vectors: [u32; 128], n: u32, quad: Quad) -> [u32; 128]
 }
 
 // A loop with one call of `lanes`: the compiler then chooses the operation once for the four words.
+#[tactic(auto, unfolding(crate::specs::Vectors::lanes_of_quads))]
 pub fn lanes_of_quads(op: LaneOp, ty: LaneType, a: Quad, b: Quad) -> Quad
     ensures { result ≡ lanes_of_quads op ty a b }
 {

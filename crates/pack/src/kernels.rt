@@ -19,6 +19,7 @@ pub struct Kernel {
     pub length: usize,
 }
 
+#[tactic(auto, unfolding(crate::specs::Kernels::kernel_count))]
 pub fn kernel_count(pack: &[u8]) -> u32
     ensures { result ≡ kernel_count pack.now }
 {
@@ -26,6 +27,7 @@ pub fn kernel_count(pack: &[u8]) -> u32
 }
 
 // The first word of kernel k, by the pairs (first word, words) from `start` on.
+#[tactic(auto, unfolding(crate::specs::Kernels::first_word))]
 pub fn first_word(bytes: &[u8], start: usize, k: u32) -> u32
     requires { start ≤ 2 ^ 40 }
     ensures { result ≡ first_word bytes.now start k }
@@ -34,6 +36,7 @@ pub fn first_word(bytes: &[u8], start: usize, k: u32) -> u32
 }
 
 // Its words.
+#[tactic(auto, unfolding(crate::specs::Kernels::kernel_words))]
 pub fn kernel_words(bytes: &[u8], start: usize, k: u32) -> u32
     requires { start ≤ 2 ^ 40 }
     ensures { result ≡ kernel_words bytes.now start k }
@@ -41,6 +44,7 @@ pub fn kernel_words(bytes: &[u8], start: usize, k: u32) -> u32
     peek_word(bytes, start + 8 * k as usize + 4)
 }
 
+#[tactic(auto, unfolding(crate::specs::Kernels::code_count))]
 fn code_count(pack: &[u8]) -> u32
     ensures { result ≡ code_count pack.now }
 {
@@ -48,6 +52,7 @@ fn code_count(pack: &[u8]) -> u32
     peek_word(pack, PAIRS_START + 8 * kernels)
 }
 
+#[tactic(auto, unfolding(crate::specs::Kernels::lies_in_code))]
 fn lies_in_code(pack: &[u8], k: u32) -> bool
     ensures { result ≡ lies_in_code pack.now k }
 {
@@ -57,6 +62,7 @@ fn lies_in_code(pack: &[u8], k: u32) -> bool
     both(1 <= words, first + words <= code)
 }
 
+#[tactic(auto, unfolding(words::specs::Choice::all_below))]
 fn all_lie(pack: &[u8], n: u32) -> bool
     ensures { result ≡ all_lie pack.now n }
 {
@@ -70,6 +76,7 @@ fn all_lie(pack: &[u8], n: u32) -> bool
 }
 
 // Not faulty: within its limits, nothing after the code, each kernel in the code.
+#[tactic(auto, unfolding(crate::specs::Kernels::sound_pack))]
 pub fn is_sound(pack: &[u8]) -> bool
     ensures { result ≡ sound_pack pack.now }
 {
@@ -84,6 +91,7 @@ pub fn is_sound(pack: &[u8]) -> bool
     false
 }
 
+#[tactic(auto, unfolding(crate::specs::Kernels::kernel_of))]
 pub fn kernel_at(pack: &[u8], k: u32) -> Kernel
     ensures { result ≡ kernel_of pack.now k }
 {

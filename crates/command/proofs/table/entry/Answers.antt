@@ -1,4 +1,3 @@
--- `command::table::entry` meets its contract. Assumes nothing.
 use mathlib.Core.Path.{refl}
 use mathlib.Core.Bool.{Bool}
 use mathlib.Core.List.{List, ◌∷◌, ◌++◌}
@@ -10,8 +9,7 @@ use Rattle.command.specs.Table.{entry_of, row_of}
 use Rattle.words.specs.Choice.{all_below}
 use Rattle.words.proofs.EachBelow.{each_below}
 use borrow.Author.Rules.{rules}
-use Rattle.command.proofs.table.entry.Statement.{statement}
-use Rattle.command.proofs.table.entry.Tie as tie
+use Rattle.command.proofs.table.entry.Goals as goal
 
 table : List ℕ
 table =
@@ -23,12 +21,6 @@ table =
 right : ℕ → Bool
 right k = eqb (get_or table k 0) (entry_of (row_of k))
 
-array-read-result : tie.Need-array-read-result
-array-read-result c = search rules
-
-returns : tie.Need-returns
+pub returns : goal.returns
 unfolding table right entry_of row_of all_below
 returns c = eqb-true _ _ (each_below right 256 refl c.args.opcode (search rules))
-
-pub entry_spec : {M : Type 1} → statement M
-entry_spec = tie.close (tie.spec array-read-result returns)
