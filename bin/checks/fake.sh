@@ -1,7 +1,7 @@
 # shellcheck shell=sh
 # A repository of one small source with these scripts, and beside it fakes: an rt, which says the file 'says' and makes what
-# it is asked for of the file 'program', and as the real one makes no program again whose source is the same; what the file
-# 'meanwhile' says is done while it proves; and a uname for each kind of machine.
+# it is asked for in a crate's folder of the file 'program'; what the file 'meanwhile' says is done while it proves; and a
+# uname for each kind of machine.
 # shellcheck disable=SC2154
 repo=$scratch/repo fakes=$scratch/fakes
 
@@ -28,14 +28,10 @@ fakes=$(dirname "$(dirname "$0")")
 echo "rt $*" >>"$fakes/asked"
 cat "$fakes/says"
 [ ! -e "$fakes/meanwhile" ] || . "$fakes/meanwhile"
-mkdir -p target/bin target/staticlib target/stamp
-case $* in
-"check replay")
-    ! cmp -s crates/one/src/lib.rt target/stamp/replay || exit 0
-    cp crates/one/src/lib.rt target/stamp/replay
-    cp "$fakes/program" target/bin/replay
-    ;;
-"staticlib capi") cp "$fakes/program" target/staticlib/libcapi.a ;;
+mkdir -p out
+case "$(basename "$(pwd)") $*" in
+"replay run") cp "$fakes/program" out/replay ;;
+"capi_c lib") cp "$fakes/program" out/libcapi_c.a ;;
 *) exit 2 ;;
 esac
 exit "$(cat "$fakes/status")"
@@ -48,14 +44,15 @@ fake_kit() {
     echo kit-1 >"$fakes/version"
     echo 0 >"$fakes/status"
     : >"$fakes/asked"
-    printf '%s\n' "fn words::add: proved" "rt: words proved (22 s)" "rt: memory proved (unchanged since it was last proved)" \
-        "rt: device proved (7 s)" >"$fakes/says"
+    printf '%s\n' "rt: chose --jobs 2 for words" "fn words::add: proved" "crate words: modules loaded=0 checked=57" \
+        "logic=proved functions=22 sum=5" "fn device::turn: proved" "crate device: modules loaded=50 checked=7" \
+        "logic=proved functions=7 sum=5" >"$fakes/says"
 }
 
 on_x86_64() { env PATH="$fakes/x86-64:$fakes/kit:$PATH" "$@"; } # COMMAND...
 on_other() { env PATH="$fakes/other:$fakes/kit:$PATH" "$@"; } # COMMAND...
 
-mkdir -p "$repo/crates/one/src" "$repo/crates/one/must-fail"
+for folder in one/src one/specs one/proofs one/must-fail capi_c replay; do mkdir -p "$repo/crates/$folder"; done
 cp -R bin "$repo/bin"
 echo one: >"$repo/crates.txt"
 echo one >"$repo/crates/one/src/lib.rt"

@@ -1,4 +1,4 @@
-// The device for programs in C: its state is an image of bytes that the caller keeps.
+// The device for programs in C: its state is an image of bytes that the caller keeps. The crate capi_c exports its calls.
 #![tactic(auto)]
 
 ghost use Rattle.state.specs.declared.edition.Start.TheVariants.{Edition1, Edition2};
@@ -15,24 +15,21 @@ use crate::calls::{fresh_call, fresh_with_call, turn_call};
 use state::edition::Start;
 
 // `memory` is the memory's length.
-#[unsafe(no_mangle)]
-pub extern "C" fn fv_fresh(device: &mut [u8], windows: &[u8], memory: u64) -> u32
+pub fn fv_fresh(device: &mut [u8], windows: &[u8], memory: u64) -> u32
     ensures { Freshens device.new result (fresh_call device.old windows.now memory) }
 {
     fresh_call(device, windows, memory as usize)
 }
 
 // Of edition 1, with a limit named.
-#[unsafe(no_mangle)]
-pub extern "C" fn fv_fresh_with(device: &mut [u8], windows: &[u8], memory: u64, limit: u32) -> u32
+pub fn fv_fresh_with(device: &mut [u8], windows: &[u8], memory: u64, limit: u32) -> u32
     ensures { Freshens device.new result (fresh_with_call device.old windows.now memory limit Edition1) }
 {
     fresh_with_call(device, windows, memory as usize, limit, Start::Edition1)
 }
 
 // Of edition 2, with a limit and the starting number of all slots named.
-#[unsafe(no_mangle)]
-pub extern "C" fn fv_fresh_edition_2(
+pub fn fv_fresh_edition_2(
     device: &mut [u8],
     windows: &[u8],
     memory: u64,
@@ -50,8 +47,7 @@ pub extern "C" fn fv_fresh_edition_2(
     )
 }
 
-#[unsafe(no_mangle)]
-pub extern "C" fn fv_turn<'a>(
+pub fn fv_turn<'a>(
     device: &mut [u8],
     memory: &mut [u8],
     ring0: &'a [u8],

@@ -7,7 +7,7 @@ use recorded::call::Seen;
 use words::arithmetic::add;
 use words::choice::both;
 
-#[derive(Drop)]
+#[derive(Clone, Copy)]
 pub struct Tally {
     fresh: u32,
     served: u32,

@@ -8,14 +8,14 @@ use Rattle.state.specs.declared.device.Window.{Window}
 use Rattle.state.specs.declared.edition.Start.{Start}
 use Rattle.state.specs.declared.edition.Start.TheVariants.{Edition1}
 use Rattle.state.specs.Device.{fresh_device, empty_device, default_limit, slot_of}
-use Rattle.state.proofs.Limits.{limit_fits, limit_unfit}
+use Rattle.state.proofs.Limits.{limit_fits_lem, limit_unfit}
 use Rattle.device.specs.Fresh.{not_made, fresh_with}
 use Rattle.demands.specs.Makings.{MakingWith, FreshMakes}
 
 making_with : (memory : ℕ) (w0 w1 w2 w3 : Window) (limit : ℕ) (chosen : Start) → MakingWith memory w0 w1 w2 w3 limit chosen
 unfolding fresh_with not_made empty_device
 making_with memory w0 w1 w2 w3 limit chosen = record {
-  made = λ fits low high. record { device = rw (fits, limit_fits limit low high); answer = rw (fits, limit_fits limit low high) };
+  made = λ fits low high. record { device = rw (fits, limit_fits_lem limit low high); answer = rw (fits, limit_fits_lem limit low high) };
   refused_101 = λ unfit. record { device = rw unfit; answer = rw unfit };
   refused_102 = λ fits outside. record { device = rw (fits, limit_unfit limit outside); answer = rw (fits, limit_unfit limit outside) };
 }

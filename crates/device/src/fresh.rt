@@ -13,7 +13,7 @@ pub enum Making {
     Refused(Refusal),
 }
 
-#[derive(Drop)]
+#[derive(Clone, Copy)]
 pub struct Fresh {
     pub device: Device,
     pub answer: Making,

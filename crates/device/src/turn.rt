@@ -38,7 +38,7 @@ pub enum Answer {
     Served(Report),
 }
 
-#[derive(Drop)]
+#[derive(Clone, Copy)]
 pub struct Turned {
     pub device: Device,
     pub answer: Answer,

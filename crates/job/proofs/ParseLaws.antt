@@ -1,20 +1,19 @@
 -- Laws of the chain of checks.
 -- Assumes nothing.
 use mathlib.Core.Path.{◌≡◌, sym, ◌∙◌}
-use mathlib.Core.Bool.{Bool, true, false, not}
+use mathlib.Core.Bool.{Bool, true, false}
 use Prim.Native.Nat.{ℕ}
-use borrow.Author.Tests.{not-true, not-false}
 use Rattle.job.specs.declared.parse.Parsed.{Parsed}
 use Rattle.job.specs.declared.parse.Parsed.TheVariants.{Refused}
 use Rattle.job.specs.Parse.{unless}
 
 -- what a function told of a check, and the branch taken upon it
 module _ {told sound : Bool} (tells : told ≡ sound) where
-  pub failed : not told ≡ true → sound ≡ false
-  failed taken = sym tells ∙ not-true told taken
+  pub failed : told ≡ false → sound ≡ false
+  failed taken = sym tells ∙ taken
 
-  pub held : not told ≡ false → sound ≡ true
-  held left = sym tells ∙ not-false told left
+  pub held : told ≡ true → sound ≡ true
+  held left = sym tells ∙ left
 
 module _ (number : ℕ) (sound : Bool) (rest : Parsed) where
   -- the first check that fails refuses

@@ -9,12 +9,14 @@ use words::choice::both;
 
 const MOST_MEMORY: u32 = 4096;
 
+#[tactic(auto, unfolding(crate::specs::Checks::windows_sound))]
 pub fn windows_are_sound(input: &[u8], windows: Section) -> bool
     ensures { result ≡ windows_sound input.now windows }
 {
     both(is_whole(input, windows), windows.count == 4)
 }
 
+#[tactic(auto, unfolding(crate::specs::Checks::kernels_sound))]
 pub fn kernels_are_sound(input: &[u8], kernels: Section) -> bool
     requires { kernels.start ≤ 2 ^ 40 }
     ensures { result ≡ kernels_sound input.now kernels }
@@ -25,6 +27,7 @@ pub fn kernels_are_sound(input: &[u8], kernels: Section) -> bool
     false
 }
 
+#[tactic(auto, unfolding(crate::specs::Checks::code_sound))]
 pub fn code_is_sound(input: &[u8], code: Section, kernels: Section) -> bool
     requires { kernels.start ≤ 2 ^ 40 }
     ensures { result ≡ code_sound input.now code kernels }
@@ -35,6 +38,7 @@ pub fn code_is_sound(input: &[u8], code: Section, kernels: Section) -> bool
     false
 }
 
+#[tactic(auto, unfolding(crate::specs::Checks::memory_sound))]
 pub fn memory_is_sound(input: &[u8], memory: Section) -> bool
     ensures { result ≡ memory_sound input.now memory }
 {

@@ -7,6 +7,7 @@ use pack::kernels::{first_word, kernel_words};
 use words::choice::both;
 
 // Kernel k of the pairs from `start` on has a word.
+#[tactic(auto, unfolding(crate::specs::Kernels::has_word))]
 fn has_word(input: &[u8], start: usize, k: u32) -> bool
     requires { start ≤ 2 ^ 40 }
     ensures { result ≡ has_word input.now start k }
@@ -15,6 +16,7 @@ fn has_word(input: &[u8], start: usize, k: u32) -> bool
 }
 
 // Kernel k of the pairs from `start` on lies in `code` words.
+#[tactic(auto, unfolding(crate::specs::Kernels::lies_in_code))]
 fn lies_in_code(input: &[u8], start: usize, code: u32, k: u32) -> bool
     requires { start ≤ 2 ^ 40 }
     ensures { result ≡ lies_in_code input.now start code k }
@@ -24,6 +26,7 @@ fn lies_in_code(input: &[u8], start: usize, code: u32, k: u32) -> bool
     first + words <= code as usize
 }
 
+#[tactic(auto, unfolding(words::specs::Choice::all_below))]
 pub fn all_have_words(input: &[u8], start: usize, n: u32) -> bool
     requires { start ≤ 2 ^ 40 }
     ensures { result ≡ all_below (has_word input.now start) n }
@@ -35,6 +38,7 @@ pub fn all_have_words(input: &[u8], start: usize, n: u32) -> bool
     all
 }
 
+#[tactic(auto, unfolding(words::specs::Choice::all_below))]
 pub fn all_lie_in_code(input: &[u8], start: usize, code: u32, n: u32) -> bool
     requires { start ≤ 2 ^ 40 }
     ensures { result ≡ all_below (lies_in_code input.now start code) n }

@@ -17,6 +17,7 @@ pub enum Parsed {
 }
 
 // From section 6 on.
+#[tactic(auto, unfolding(crate::specs::Parse::from_kernels))]
 fn take_from_kernels(input: &[u8], sections: Sections) -> Parsed
     requires { sections.kernels.start ≤ 2 ^ 40 }
     ensures { result ≡ from_kernels input.now sections }
@@ -37,6 +38,7 @@ fn take_from_kernels(input: &[u8], sections: Sections) -> Parsed
 }
 
 // From section 2 on.
+#[tactic(auto, unfolding(crate::specs::Parse::from_rings))]
 fn take_from_rings(input: &[u8], sections: Sections) -> Parsed
     requires { sections.kernels.start ≤ 2 ^ 40 }
     ensures { result ≡ from_rings input.now sections }
@@ -56,6 +58,7 @@ fn take_from_rings(input: &[u8], sections: Sections) -> Parsed
     take_from_kernels(input, sections)
 }
 
+#[tactic(auto, unfolding(crate::specs::Parse::parts_of))]
 pub fn take_apart(input: &[u8]) -> Parsed
     ensures { result ≡ parts_of input.now }
 {

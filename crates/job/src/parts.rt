@@ -33,6 +33,7 @@ pub struct Job {
     pub memory: Part,
 }
 
+#[tactic(auto, unfolding(crate::specs::Parts::window_at))]
 fn window_at(input: &[u8], k: usize) -> Window
     requires { k ≤ 3 }
     ensures { result ≡ window_at input.now k }
@@ -71,6 +72,7 @@ pub fn bytes_of(input: &[u8], part: Part) -> &[u8]
 }
 
 // The job of an input with these sections.
+#[tactic(auto, unfolding(crate::specs::Parts::job_of))]
 pub fn job_of(input: &[u8], sections: Sections) -> Job
     ensures { result ≡ job_of input.now sections }
 {

@@ -14,6 +14,7 @@ pub struct Section {
 }
 
 // The section at a place; each thing that it counts has `unit` bytes.
+#[tactic(auto, unfolding(crate::specs::Section::section_at))]
 pub fn section_at(input: &[u8], at: usize, unit: usize) -> Section
     requires { (at ≤ 2 ^ 40) × (unit ≤ 8) }
     ensures { (result ≡ section_at unit input.now at) × (result.start ≤ result.end) × (result.end ≤ at + 2 ^ 36) }

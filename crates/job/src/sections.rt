@@ -23,6 +23,7 @@ pub struct Sections {
 }
 
 // Each starts where the one before it ends.
+#[tactic(auto, unfolding(crate::specs::Sections::sections_of, crate::specs::Sections::windows_of, crate::specs::Sections::ring0_of, crate::specs::Sections::ring1_of, crate::specs::Sections::ring2_of, crate::specs::Sections::ring3_of, crate::specs::Sections::kernels_of, crate::specs::Sections::code_of, crate::specs::Sections::memory_of))]
 pub fn sections_of(input: &[u8]) -> Sections
     ensures { (result ≡ sections_of input.now) × (result.kernels.start ≤ 2 ^ 40) }
 {

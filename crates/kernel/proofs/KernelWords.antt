@@ -14,7 +14,7 @@ use Rattle.kernel.specs.declared.step.Progress.{Progress}
 use Rattle.kernel.specs.declared.step.Progress.TheVariants.{Running, Ended, Stopped}
 use Rattle.pack.specs.Kernels.{kernel_of, code_word}
 use Rattle.kernel.specs.Thread.{started, moved_to, advanced}
-use Rattle.kernel.specs.Step.{stops, goes_on, ends_thread, branched, step_of}
+use Rattle.kernel.specs.Step.{stops, goes_on, ends_thread, step_of}
 use Rattle.kernel.specs.Run.{if_running, step_more, running, steps_of, run_of}
 use Rattle.kernel.specs.Dispatch.{going, thread_of, thread_more, threads_of, dispatch_of}
 use Rattle.kernel.proofs.StepByStep.{each_step-keeps}

@@ -9,7 +9,7 @@ use Rattle.kernel.specs.declared.step.Stop.{Stop}
 use Rattle.kernel.specs.declared.thread.Thread.{Thread}
 use Rattle.kernel.specs.declared.step.Progress.{Progress}
 use Rattle.kernel.specs.declared.step.Progress.TheVariants.{Running, Ended, Stopped}
-use Rattle.kernel.specs.Step.{State, stops, stopped_as, goes_on, ends_thread, branched, step_of}
+use Rattle.kernel.specs.Step.{State, stops, stopped_as, goes_on, ends_thread, step_of}
 use Rattle.kernel.specs.Run.{running, steps_of, run_of}
 use Rattle.kernel.proofs.Runs.{AtRest, no_step, one-step_more, run_rests, ended_rests, stopped_rests}
 use Rattle.kernel.proofs.StepByStep.{more-running, more_at_rest, one_more}

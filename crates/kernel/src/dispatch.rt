@@ -24,6 +24,7 @@ pub enum Ran {
     Stopped(ThreadStop),
 }
 
+#[tactic(auto, unfolding(crate::specs::Dispatch::ran_of))]
 fn ran_of(progress: Progress, place: u32, group: u32, thread: u32) -> Ran
     ensures { result ≡ ran_of progress place group thread }
 {
@@ -40,6 +41,7 @@ fn ran_of(progress: Progress, place: u32, group: u32, thread: u32) -> Ran
 }
 
 // Thread i of the dispatch, run on the window to its end or first stop.
+#[tactic(auto, unfolding(crate::specs::Dispatch::thread_of, crate::specs::Dispatch::shown))]
 fn run_thread(
     pack: &[u8],
     kernel: Kernel,
@@ -60,6 +62,7 @@ fn run_thread(
     ran_of(progress, end.thread.place, group, thread)
 }
 
+#[tactic(auto, unfolding(crate::specs::Dispatch::dispatch_of))]
 pub fn dispatch(
     pack: &[u8],
     k: u32,

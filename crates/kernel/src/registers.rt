@@ -5,7 +5,7 @@ ghost use Rattle.kernel.specs.Registers.{start_registers, scalar_of, with_scalar
 use instruction::vectors::with_quad;
 use memory::quad::Quad;
 
-#[derive(Drop)]
+#[derive(Clone, Copy)]
 pub struct Registers {
     pub scalars: [u32; Registers::COUNT],
     pub vectors: [u32; 4 * Registers::COUNT],
@@ -23,6 +23,7 @@ impl Registers {
 
     pub const GROUPS: usize = 4;
 
+    #[tactic(auto, unfolding(crate::specs::Registers::start_registers))]
     pub fn start(group: u32, thread: u32, threads: u32, groups: u32) -> Self
         ensures { result ≡ start_registers group thread threads groups }
     {
@@ -37,6 +38,7 @@ impl Registers {
         }
     }
 
+    #[tactic(auto, unfolding(crate::specs::Registers::scalar_of))]
     pub fn scalar(self, n: u32) -> u32
         ensures { result ≡ scalar_of self (n % 32) }
     {
@@ -44,6 +46,7 @@ impl Registers {
         if at == 0 { 0 } else { self.scalars[at] }
     }
 
+    #[tactic(auto, unfolding(crate::specs::Registers::with_scalar))]
     pub fn with_scalar(mut self, n: u32, value: u32) -> Self
         ensures { result ≡ with_scalar self (n % 32) value }
     {
@@ -52,6 +55,7 @@ impl Registers {
         self
     }
 
+    #[tactic(auto, unfolding(crate::specs::Registers::with_vector))]
     pub fn with_vector(mut self, n: u32, quad: Quad) -> Self
         ensures { result ≡ with_vector self (n % 32) quad }
     {

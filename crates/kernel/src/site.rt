@@ -39,6 +39,7 @@ fn address_of(why: Stop) -> u32
     }
 }
 
+#[tactic(auto, unfolding(crate::specs::Site::site_of))]
 pub fn site_of(ran: Ran) -> Site
     ensures { result ≡ site_of ran }
 {

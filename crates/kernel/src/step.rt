@@ -33,12 +33,13 @@ pub enum Progress {
     Stopped(Stop),
 }
 
-#[derive(Drop)]
+#[derive(Clone, Copy)]
 pub struct Stepped {
     pub thread: Thread,
     pub progress: Progress,
 }
 
+#[tactic(auto, unfolding(crate::specs::Step::stops))]
 fn stopped(thread: Thread, why: Stop) -> Stepped
     ensures { result ≡ stops why thread }
 {
@@ -48,6 +49,7 @@ fn stopped(thread: Thread, why: Stop) -> Stepped
     }
 }
 
+#[tactic(auto, unfolding(crate::specs::Step::goes_on))]
 fn go_on(thread: Thread) -> Stepped
     requires { thread.steps + 1 < 2 ^ 32 }
     ensures { result ≡ goes_on thread }
@@ -58,6 +60,7 @@ fn go_on(thread: Thread) -> Stepped
     }
 }
 
+#[tactic(auto, unfolding(crate::specs::Step::ends_thread))]
 fn end(thread: Thread) -> Stepped
     requires { thread.steps + 1 < 2 ^ 32 }
     ensures { result ≡ ends_thread thread }
@@ -68,6 +71,7 @@ fn end(thread: Thread) -> Stepped
     }
 }
 
+#[tactic(auto, unfolding(crate::specs::Step::branched, crate::specs::Step::lands))]
 fn branch(thread: Thread, offset: u32, length: usize) -> Stepped
     requires { thread.steps + 1 < 2 ^ 32 }
     ensures { result ≡ branched length offset thread }
@@ -83,6 +87,7 @@ fn branch(thread: Thread, offset: u32, length: usize) -> Stepped
     }
 }
 
+#[tactic(auto, unfolding(crate::specs::Step::after_store, memory::specs::Address::if_inside))]
 fn after_store(thread: Thread, reach: Reach) -> Stepped
     requires { thread.steps + 1 < 2 ^ 32 }
     ensures { result ≡ after_store reach thread }
@@ -93,6 +98,7 @@ fn after_store(thread: Thread, reach: Reach) -> Stepped
     }
 }
 
+#[tactic(auto, unfolding(crate::specs::Thread::written, crate::specs::Thread::written_vector, crate::specs::Step::applied))]
 fn apply(thread: Thread, rd: u32, effect: Effect, length: usize, window: &mut [u8]) -> Stepped
     requires { (thread.steps + 1 < 2 ^ 32) × (rd < 32) }
     ensures { Shows result window.new (applied length rd effect thread window.old) }
@@ -110,6 +116,7 @@ fn apply(thread: Thread, rd: u32, effect: Effect, length: usize, window: &mut [u
     }
 }
 
+#[tactic(auto, unfolding(crate::specs::Thread::read_of, crate::specs::Step::executed))]
 fn execute(thread: Thread, instr: Instr, length: usize, window: &mut [u8]) -> Stepped
     requires { (thread.steps + 1 < 2 ^ 32) × (instr.rd < 32) × (instr.rs1 < 32) × (instr.rs2 < 32) }
     ensures { Shows result window.new (executed length instr thread window.old) }
@@ -125,6 +132,7 @@ fn execute(thread: Thread, instr: Instr, length: usize, window: &mut [u8]) -> St
     apply(read_twice, instr.rd, effect, length, window)
 }
 
+#[tactic(auto, unfolding(crate::specs::Step::step_of, instruction::specs::Decode::decoded))]
 pub fn step(thread: Thread, pack: &[u8], kernel: Kernel, window: &mut [u8], limit: u32) -> Stepped
     requires { kernel.start < 2 ^ 62 }
     ensures { Shows result window.new (step_of limit pack.now kernel thread window.old) }

@@ -7,7 +7,7 @@ use crate::registers::Registers;
 use memory::quad::Quad;
 use words::arithmetic::add;
 
-#[derive(Drop)]
+#[derive(Clone, Copy)]
 pub struct Thread {
     pub registers: Registers,
     pub place: u32,
@@ -15,13 +15,14 @@ pub struct Thread {
 }
 
 // A register's value, and the thread that it was read from.
-#[derive(Drop)]
+#[derive(Clone, Copy)]
 pub struct Reading {
     pub thread: Thread,
     pub value: u32,
 }
 
 impl Thread {
+    #[tactic(auto, unfolding(crate::specs::Thread::started))]
     pub fn start(group: u32, thread: u32, threads: u32, groups: u32) -> Self
         ensures { result ≡ started group thread threads groups }
     {
@@ -32,6 +33,7 @@ impl Thread {
         }
     }
 
+    #[tactic(auto, unfolding(crate::specs::Thread::read_of))]
     pub fn read(self, n: u32) -> Reading
         ensures { result ≡ read_of self (n % 32) }
     {
@@ -42,6 +44,7 @@ impl Thread {
         }
     }
 
+    #[tactic(auto, unfolding(crate::specs::Thread::written))]
     pub fn write(mut self, n: u32, value: u32) -> Self
         ensures { result ≡ written self (n % 32) value }
     {
@@ -50,6 +53,7 @@ impl Thread {
         self
     }
 
+    #[tactic(auto, unfolding(crate::specs::Thread::written_vector))]
     pub fn write_vector(mut self, n: u32, quad: Quad) -> Self
         ensures { result ≡ written_vector self (n % 32) quad }
     {
@@ -59,6 +63,7 @@ impl Thread {
     }
 
     // One step taken, and the thread stands at `place`.
+    #[tactic(auto, unfolding(crate::specs::Thread::moved_to))]
     pub fn move_to(mut self, place: u32) -> Self
         requires { self.steps + 1 < 2 ^ 32 }
         ensures { result ≡ moved_to self place }
@@ -69,6 +74,7 @@ impl Thread {
     }
 
     // One step taken, and the thread stands at the next instruction.
+    #[tactic(auto, unfolding(crate::specs::Thread::advanced))]
     pub fn advance(self) -> Self
         requires { self.steps + 1 < 2 ^ 32 }
         ensures { result ≡ advanced self }

@@ -21,9 +21,9 @@ pub limit_within : (limit : ℕ) → limit_fits limit ≡ true → (1 ≤ limit)
 unfolding limit_fits
 limit_within limit e = (leb-true 1 limit (both_left (leb 1 limit) _ e), leb-true limit 65536 (both_right (leb 1 limit) _ e))
 
-pub limit_fits : (limit : ℕ) → 1 ≤ limit → limit ≤ 65536 → limit_fits limit ≡ true
+pub limit_fits_lem : (limit : ℕ) → 1 ≤ limit → limit ≤ 65536 → limit_fits limit ≡ true
 unfolding limit_fits
-limit_fits limit low high = rw (le-leb 1 limit low, le-leb limit 65536 high)
+limit_fits_lem limit low high = rw (le-leb 1 limit low, le-leb limit 65536 high)
 
 pub limit_unfit : (limit : ℕ) → (limit ≡ 0) ⊎ (65536 < limit) → limit_fits limit ≡ false
 unfolding limit_fits

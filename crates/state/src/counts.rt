@@ -6,7 +6,7 @@ ghost use Rattle.state.specs.Counts.{no_counts, counted, total, balanced};
 use crate::plus_one::plus_one_at;
 use command::outcome::{Outcome, number};
 
-#[derive(Drop)]
+#[derive(Clone, Copy)]
 pub struct Counts {
     // The commands that each ring has taken.
     pub commands: [u32; 4],
@@ -25,6 +25,7 @@ impl Counts {
     }
 
     // A command of ring q has had this outcome.
+    #[tactic(auto, unfolding(crate::specs::Counts::counted))]
     pub fn counted(self, q: u32, outcome: Outcome) -> Self
         ensures { result ≡ counted self q (outcome_number outcome) }
     {
@@ -37,6 +38,7 @@ impl Counts {
 }
 
 // Few enough for 64 bits: at most fifteen.
+#[tactic(auto, unfolding(crate::specs::Counts::total))]
 fn total(counts: &[u32]) -> u64
     requires { length counts.now ≤ 15 }
     ensures { result ≡ total counts.now }
@@ -49,6 +51,7 @@ fn total(counts: &[u32]) -> u64
 }
 
 // Whether the two sums agree modulo 2^32.
+#[tactic(auto, unfolding(crate::specs::Counts::balanced))]
 pub fn balanced(counts: Counts) -> bool
     ensures { result ≡ balanced counts }
 {

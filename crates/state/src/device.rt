@@ -23,7 +23,7 @@ pub struct Ring {
     pub frame: Frame,
 }
 
-#[derive(Drop)]
+#[derive(Clone, Copy)]
 pub struct Device {
     pub rings: [Ring; 4],
     pub slots: [u32; 64],
@@ -68,12 +68,14 @@ impl Device {
 
     // Hands the device back: that every device has four rings, 64 slots, four and fifteen counts, and numbers of 32 bits is
     // this contract.
+    #[tactic(auto, unfolding(crate::specs::Device::SlotsFit, crate::specs::Device::slot_of, crate::specs::Device::commands_of, crate::specs::Device::outcomes_of))]
     pub fn by_type(self) -> Self
         ensures { (result ≡ self) × ByType self }
     {
         self
     }
 
+    #[tactic(auto, unfolding(crate::specs::Device::fresh_device))]
     pub fn fresh(w0: Window, w1: Window, w2: Window, w3: Window, limit: u32, start: Start) -> Self
         ensures { result ≡ fresh_device w0 w1 w2 w3 limit start }
     {
@@ -88,6 +90,7 @@ impl Device {
     }
 
     // What a refused making hands out.
+    #[tactic(auto, unfolding(crate::specs::Device::empty_device))]
     pub fn empty() -> Self
         ensures { result ≡ empty_device }
     {
@@ -105,6 +108,7 @@ impl Device {
         )
     }
 
+    #[tactic(auto, unfolding(crate::specs::Device::ring_of))]
     pub fn ring(self, q: u32) -> Ring
         requires { q < 4 }
         ensures { result ≡ ring_of self q }
@@ -113,6 +117,7 @@ impl Device {
         self.rings[at]
     }
 
+    #[tactic(auto, unfolding(crate::specs::Device::slot_of))]
     pub fn slot(self, n: u8) -> u32
         ensures { result ≡ slot_of self n }
     {
@@ -120,6 +125,7 @@ impl Device {
         if at < 64 { self.slots[at] } else { 0 }
     }
 
+    #[tactic(auto, unfolding(crate::specs::Device::with_ring))]
     pub fn with_ring(mut self, q: u32, ring: Ring) -> Self
         requires { q < 4 }
         ensures { result ≡ with_ring self q ring }
@@ -129,6 +135,7 @@ impl Device {
         self
     }
 
+    #[tactic(auto, unfolding(crate::specs::Device::with_slots))]
     pub fn with_slots(mut self, slots: [u32; 64]) -> Self
         ensures { result ≡ with_slots self slots }
     {
@@ -136,6 +143,7 @@ impl Device {
         self
     }
 
+    #[tactic(auto, unfolding(crate::specs::Device::with_marker))]
     pub fn with_marker(mut self, marker: u32) -> Self
         ensures { result ≡ with_marker self marker }
     {
@@ -143,6 +151,7 @@ impl Device {
         self
     }
 
+    #[tactic(auto, unfolding(crate::specs::Device::with_counts))]
     pub fn with_counts(mut self, counts: Counts) -> Self
         ensures { result ≡ with_counts self counts }
     {

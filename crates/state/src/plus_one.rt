@@ -9,6 +9,7 @@ pub fn plus_one(n: u32) -> u32
 }
 
 // One place changes, n; where there is no such place, none.
+#[tactic(auto, unfolding(crate::specs::PlusOne::plus_one_at))]
 pub fn plus_one_at(numbers: &mut [u32], n: usize)
     ensures { numbers.new ≡ plus_one_at numbers.old n }
 {

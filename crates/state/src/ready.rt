@@ -17,6 +17,7 @@ pub enum Picked {
     Nobody,
 }
 
+#[tactic(auto, unfolding(crate::specs::Ready::ready_with))]
 fn ready_with(edition: Edition, command: Command, slot: u32) -> bool
     ensures { result ≡ ready_with edition command slot }
 {
@@ -37,6 +38,7 @@ fn slot_in(slots: &[u32], n: u8) -> u32
 
 // Whether a ring has a ready head command. The slots are lent, and the device is not handed over: four copies of it are a
 // large part of an empty turn.
+#[tactic(auto, unfolding(crate::specs::Ready::ready_where))]
 fn is_ready(edition: Edition, ring: Ring, slots: &[u32], bytes: &[u8]) -> bool
     requires { ring.cursor ≤ 65536 }
     ensures { result ≡ ready_where edition ring slots.now bytes.now }
@@ -50,12 +52,14 @@ fn is_ready(edition: Edition, ring: Ring, slots: &[u32], bytes: &[u8]) -> bool
     )
 }
 
+#[tactic(auto, unfolding(crate::specs::Ready::next_ring))]
 pub fn next_ring(q: u32) -> u32
     ensures { result ≡ next_ring q }
 {
     if q < 3 { q + 1 } else { 0 }
 }
 
+#[tactic(auto, unfolding(crate::specs::Ready::bytes_of_ring))]
 pub fn bytes_of_ring<'a>(q: u32, r0: &'a [u8], r1: &'a [u8], r2: &'a [u8], r3: &'a [u8]) -> &'a [u8]
     ensures { result.now ≡ bytes_of_ring q r0.now r1.now r2.now r3.now }
 {
@@ -68,6 +72,7 @@ pub fn bytes_of_ring<'a>(q: u32, r0: &'a [u8], r1: &'a [u8], r2: &'a [u8], r3: &
 }
 
 // The first ready ring from the marker upward.
+#[tactic(auto, unfolding(crate::specs::Ready::pick_of, crate::specs::Device::ring_of))]
 pub fn pick<'a>(d: Device, r0: &'a [u8], r1: &'a [u8], r2: &'a [u8], r3: &'a [u8]) -> Picked
     requires { Steady d }
     ensures { result ≡ pick_of d r0.now r1.now r2.now r3.now }

@@ -58,6 +58,7 @@ fn all_four(a: bool, b: bool, c: bool, d: bool) -> bool
     both(both(both(a, b), c), d)
 }
 
+#[tactic(auto, unfolding(crate::specs::Refusal::window_fits))]
 fn window_fits(memory: usize, window: Window) -> bool
     ensures { result ≡ window_fits memory window }
 {
@@ -68,6 +69,7 @@ fn window_fits(memory: usize, window: Window) -> bool
     )
 }
 
+#[tactic(auto, unfolding(crate::specs::Refusal::memory_fits))]
 pub fn memory_fits(memory: usize, w0: Window, w1: Window, w2: Window, w3: Window) -> bool
     ensures { result ≡ memory_fits memory w0 w1 w2 w3 }
 {
@@ -80,6 +82,7 @@ pub fn memory_fits(memory: usize, w0: Window, w1: Window, w2: Window, w3: Window
     both(memory <= MOST_MEMORY, windows)
 }
 
+#[tactic(auto, unfolding(crate::specs::Refusal::ring_sound))]
 fn ring_sound(ring: Ring) -> bool
     ensures { result ≡ ring_sound ring }
 {
@@ -91,12 +94,14 @@ fn ring_sound(ring: Ring) -> bool
     )
 }
 
+#[tactic(auto, unfolding(crate::specs::Refusal::limit_fits))]
 pub fn limit_fits(limit: u32) -> bool
     ensures { result ≡ limit_fits limit }
 {
     both(LEAST_LIMIT <= limit, limit <= MOST_LIMIT)
 }
 
+#[tactic(auto, unfolding(crate::specs::Refusal::state_sound))]
 fn state_sound(d: Device) -> bool
     ensures { result ≡ state_sound d }
 {
@@ -110,12 +115,14 @@ fn state_sound(d: Device) -> bool
     both(numbers, rings)
 }
 
+#[tactic(auto, unfolding(crate::specs::Refusal::ring_fits))]
 fn ring_fits(ring: Ring, length: usize) -> bool
     ensures { result ≡ ring_fits ring length }
 {
     both(length <= MOST_RING, ring.cursor as usize <= length)
 }
 
+#[tactic(auto, unfolding(crate::specs::Refusal::rings_fit))]
 fn rings_fit(d: Device, l0: usize, l1: usize, l2: usize, l3: usize) -> bool
     ensures { result ≡ rings_fit d l0 l1 l2 l3 }
 {
@@ -127,6 +134,7 @@ fn rings_fit(d: Device, l0: usize, l1: usize, l2: usize, l3: usize) -> bool
     )
 }
 
+#[tactic(auto, unfolding(crate::specs::Refusal::windows_fit))]
 fn windows_fit(d: Device, memory: usize) -> bool
     ensures { result ≡ windows_fit d memory }
 {
@@ -142,6 +150,7 @@ fn windows_fit(d: Device, memory: usize) -> bool
 }
 
 // The numbers are the lengths of the memory, the four rings and the pipe.
+#[tactic(auto, unfolding(crate::specs::Refusal::verdict_of))]
 pub fn judge(
     d: Device,
     memory: usize,

@@ -1,0 +1,55 @@
+// The static library for programs in C: the calls of capi under their own names, with the same clauses.
+#![tactic(auto)]
+
+ghost use Rattle.state.specs.declared.edition.Start.TheVariants.{Edition1, Edition2};
+ghost use Rattle.device.specs.Turn.{call_of};
+ghost use Rattle.capi.specs.Calls.{fresh_call, fresh_with_call, Freshens, turn_call, Leaves};
+
+// `memory` is the memory's length.
+#[unsafe(no_mangle)]
+pub extern "C" fn fv_fresh(device: &mut [u8], windows: &[u8], memory: u64) -> u32
+    ensures { Freshens device.new result (fresh_call device.old windows.now memory) }
+{
+    capi::fv_fresh(device, windows, memory)
+}
+
+// Of edition 1, with a limit named.
+#[unsafe(no_mangle)]
+pub extern "C" fn fv_fresh_with(device: &mut [u8], windows: &[u8], memory: u64, limit: u32) -> u32
+    ensures { Freshens device.new result (fresh_with_call device.old windows.now memory limit Edition1) }
+{
+    capi::fv_fresh_with(device, windows, memory, limit)
+}
+
+// Of edition 2, with a limit and the starting number of all slots named.
+#[unsafe(no_mangle)]
+pub extern "C" fn fv_fresh_edition_2(
+    device: &mut [u8],
+    windows: &[u8],
+    memory: u64,
+    limit: u32,
+    first: u32,
+) -> u32
+    ensures { Freshens device.new result (fresh_with_call device.old windows.now memory limit (Edition2 first)) }
+{
+    capi::fv_fresh_edition_2(device, windows, memory, limit, first)
+}
+
+#[unsafe(no_mangle)]
+pub extern "C" fn fv_turn<'a>(
+    device: &mut [u8],
+    memory: &mut [u8],
+    ring0: &'a [u8],
+    ring1: &'a [u8],
+    ring2: &'a [u8],
+    ring3: &'a [u8],
+    pack: &[u8],
+    pipe: &mut [u8],
+    report: &mut [u8],
+) -> u32
+    ensures { Leaves device.new memory.new pipe.new report.new result (turn_call device.old report.old (call_of memory.old ring0.now ring1.now ring2.now ring3.now pack.now pipe.old)) }
+{
+    capi::fv_turn(
+        device, memory, ring0, ring1, ring2, ring3, pack, pipe, report,
+    )
+}
