@@ -12,6 +12,7 @@ use pack::kernels::kernel_count;
 use words::choice::{both, one_of};
 
 // Outcome 5; `full` tells whether the command's slot is.
+#[tactic(auto, unfolding(crate::specs::Checks::slot_fault))]
 pub fn slot_fault(command: Command, full: bool) -> Outcome
     ensures { result ≡ slot_fault command full }
 {
@@ -21,6 +22,7 @@ pub fn slot_fault(command: Command, full: bool) -> Outcome
     Outcome::Done
 }
 
+#[tactic(auto, unfolding(crate::specs::Checks::misaligned))]
 fn is_misaligned(command: Command) -> bool
     ensures { result ≡ misaligned command }
 {
@@ -32,6 +34,7 @@ fn is_misaligned(command: Command) -> bool
     one_of(one_of(first, second), frame)
 }
 
+#[tactic(auto, unfolding(crate::specs::Checks::unframed))]
 fn is_unframed(command: Command, frame: Frame) -> bool
     ensures { result ≡ unframed command frame }
 {
@@ -39,6 +42,7 @@ fn is_unframed(command: Command, frame: Frame) -> bool
     both(is_rectangle(command.opcode), narrow)
 }
 
+#[tactic(auto, unfolding(crate::specs::Checks::outside))]
 fn is_outside(command: Command, length: usize, frame: Frame) -> bool
     ensures { result ≡ outside command length frame }
 {
@@ -50,6 +54,7 @@ fn is_outside(command: Command, length: usize, frame: Frame) -> bool
     one_of(one_of(first, second), base)
 }
 
+#[tactic(auto, unfolding(crate::specs::Checks::unfit_frame))]
 fn is_unfit_frame(command: Command) -> bool
     ensures { result ≡ unfit_frame command }
 {
@@ -59,12 +64,14 @@ fn is_unfit_frame(command: Command) -> bool
     )
 }
 
+#[tactic(auto, unfolding(crate::specs::Checks::out_of_range))]
 fn is_out_of_range(count: u32) -> bool
     ensures { result ≡ out_of_range count }
 {
     one_of(count < 1, 64 < count)
 }
 
+#[tactic(auto, unfolding(crate::specs::Checks::unfit_dispatch))]
 fn is_unfit_dispatch(command: Command, pack: &[u8]) -> bool
     ensures { result ≡ unfit_dispatch command pack.now }
 {
@@ -74,6 +81,7 @@ fn is_unfit_dispatch(command: Command, pack: &[u8]) -> bool
 }
 
 // Outcomes 6 to 10: the smallest that applies.
+#[tactic(auto, unfolding(crate::specs::Checks::check_of))]
 pub fn check(command: Command, length: usize, frame: Frame, pack: &[u8]) -> Outcome
     ensures { result ≡ check_of command length frame pack.now }
 {

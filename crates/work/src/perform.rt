@@ -10,6 +10,7 @@ use command::frame::Frame;
 use command::header::Command;
 use command::outcome::{Outcome, is_done};
 
+#[tactic(auto, unfolding(crate::specs::Perform::fault_of, crate::specs::Perform::or_else))]
 fn fault(command: Command, full: bool, length: usize, frame: Frame, pack: &[u8]) -> Outcome
     ensures { result ≡ fault_of command full length frame pack.now }
 {
@@ -27,6 +28,7 @@ fn fault(command: Command, full: bool, length: usize, frame: Frame, pack: &[u8])
 }
 
 // `full` tells whether the command's slot is, and `limit` is the steps of a thread.
+#[tactic(auto, unfolding(crate::specs::Work::leaves))]
 pub fn perform(
     command: Command,
     full: bool,

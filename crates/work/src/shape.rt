@@ -8,12 +8,14 @@ use command::header::Command;
 use command::opcode;
 use words::choice::{both, one_of};
 
+#[tactic(auto, unfolding(crate::specs::Shape::is_rectangle))]
 pub fn is_rectangle(opcode: u8) -> bool
     ensures { result ≡ is_rectangle opcode }
 {
     one_of(opcode == opcode::FILL_RECT, opcode == opcode::BLIT)
 }
 
+#[tactic(auto, unfolding(crate::specs::Shape::size_of))]
 fn size_of(command: Command) -> u32
     ensures { result ≡ size_of command }
 {
@@ -24,12 +26,14 @@ fn size_of(command: Command) -> u32
     }
 }
 
+#[tactic(auto, unfolding(crate::specs::Shape::width_of))]
 pub fn width(command: Command) -> usize
     ensures { result ≡ width_of command }
 {
     (size_of(command) % 0x1_0000) as usize
 }
 
+#[tactic(auto, unfolding(crate::specs::Shape::height_of))]
 pub fn height(command: Command) -> usize
     ensures { result ≡ height_of command }
 {
@@ -37,6 +41,7 @@ pub fn height(command: Command) -> usize
 }
 
 // No frame, or one too narrow for a rectangle that has pixels.
+#[tactic(auto, unfolding(crate::specs::Shape::too_narrow))]
 pub fn too_narrow(frame: Frame, width: usize, height: usize) -> bool
     requires { width < 2 ^ 16 }
     ensures { result ≡ too_narrow frame width height }
@@ -54,6 +59,7 @@ pub fn too_narrow(frame: Frame, width: usize, height: usize) -> bool
     }
 }
 
+#[tactic(auto, unfolding(memory::specs::Rectangle::rectangle_end))]
 fn rectangle_end(address: usize, stride: usize, width: usize, height: usize) -> usize
     requires { (address < 2 ^ 32) × (stride < 2 ^ 32) × (width < 2 ^ 16) × (height < 2 ^ 16) }
     ensures { result ≡ rectangle_end address stride width height }
@@ -68,6 +74,7 @@ fn rectangle_end(address: usize, stride: usize, width: usize, height: usize) -> 
 }
 
 // Where the bytes at an address end.
+#[tactic(auto, unfolding(crate::specs::Shape::end_of))]
 pub fn end_of(command: Command, frame: Frame, address: u32) -> usize
     ensures { result ≡ end_of command frame address }
 {

@@ -40,6 +40,7 @@ impl Performed {
     }
 }
 
+#[tactic(auto, unfolding(crate::specs::Work::stop_outcome))]
 fn stop_outcome(why: Stop) -> Outcome
     ensures { result ≡ stop_outcome why }
 {
@@ -51,6 +52,7 @@ fn stop_outcome(why: Stop) -> Outcome
     }
 }
 
+#[tactic(auto, unfolding(crate::specs::Work::ran_outcome))]
 fn ran_outcome(ran: Ran) -> Outcome
     ensures { result ≡ ran_outcome ran }
 {
@@ -94,6 +96,7 @@ fn blit_rect(command: Command, window: &mut [u8], frame: Frame)
     );
 }
 
+#[tactic(auto, unfolding(crate::specs::Work::ran_as, crate::specs::Work::dispatched_by))]
 fn run(command: Command, window: &mut [u8], frame: Frame, pack: &[u8], limit: u32) -> Performed
     ensures { (result ≡ ran_as frame (dispatched_by command limit pack.now window.old).ran) × (window.new ≡ (dispatched_by command limit pack.now window.old).window) }
 {
@@ -112,6 +115,7 @@ fn run(command: Command, window: &mut [u8], frame: Frame, pack: &[u8], limit: u3
     }
 }
 
+#[tactic(auto, unfolding(crate::specs::Work::held_by))]
 fn held(command: Command) -> Frame
     ensures { result ≡ held_by command }
 {
@@ -122,6 +126,7 @@ fn held(command: Command) -> Frame
     }
 }
 
+#[tactic(auto, unfolding(command::specs::Table::row_of, crate::specs::Work::after_dispatch, crate::specs::Work::leaves))]
 pub fn work(
     command: Command,
     ring: &[u8],
