@@ -29,6 +29,7 @@ pub fn making_number(making: Making) -> u32
     }
 }
 
+#[tactic(auto, unfolding(crate::specs::Fresh::not_made))]
 fn not_made(why: Refusal) -> Fresh
     ensures { result ≡ not_made why }
 {
@@ -39,6 +40,7 @@ fn not_made(why: Refusal) -> Fresh
 }
 
 // With a limit and a start named. `memory` is the memory's length.
+#[tactic(auto, unfolding(crate::specs::Fresh::fresh_with))]
 pub fn make_with(
     memory: usize,
     w0: Window,

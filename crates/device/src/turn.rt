@@ -44,12 +44,14 @@ pub struct Turned {
     pub answer: Answer,
 }
 
+#[tactic(auto, unfolding(crate::specs::Turn::fence_of))]
 fn fence_of(emitting: bool, slot: u32) -> u32
     ensures { result ≡ fence_of emitting slot }
 {
     if emitting { emitted(slot) } else { 0 }
 }
 
+#[tactic(auto, unfolding(crate::specs::Turn::emit_to))]
 fn emit_to(emitting: bool, d: Device, n: u8) -> Device
     ensures { result ≡ emit_to emitting d n }
 {
@@ -61,6 +63,7 @@ fn emit_to(emitting: bool, d: Device, n: u8) -> Device
     }
 }
 
+#[tactic(auto, unfolding(crate::specs::Turn::ring_after))]
 fn ring_after(ring: Ring, command: Command, frame: Frame) -> Ring
     requires { ring.cursor + command.size < 2 ^ 32 }
     ensures { result ≡ ring_after ring command frame }
@@ -73,6 +76,7 @@ fn ring_after(ring: Ring, command: Command, frame: Frame) -> Ring
     }
 }
 
+#[tactic(auto, unfolding(crate::specs::Turn::device_after))]
 fn device_after(d: Device, q: u32, command: Command, done: Performed) -> Device
     requires { (q < 4) × ((ring_of d q).cursor + command.size < 2 ^ 32) }
     ensures { result ≡ device_after d q command done }
@@ -87,6 +91,7 @@ fn device_after(d: Device, q: u32, command: Command, done: Performed) -> Device
     next.with_marker(marker).with_counts(counts)
 }
 
+#[tactic(auto, unfolding(crate::specs::Turn::report_of))]
 fn report_of(d: Device, q: u32, command: Command, done: Performed) -> Report
     ensures { result ≡ report_of d q command done }
 {
@@ -105,6 +110,7 @@ fn report_of(d: Device, q: u32, command: Command, done: Performed) -> Report
     }
 }
 
+#[tactic(auto, unfolding(crate::specs::Turn::finished))]
 fn finish(d: Device, q: u32, command: Command, done: Performed) -> Turned
     requires { (q < 4) × ((ring_of d q).cursor + command.size < 2 ^ 32) }
     ensures { result ≡ finished d q command done }
@@ -116,6 +122,7 @@ fn finish(d: Device, q: u32, command: Command, done: Performed) -> Turned
 }
 
 // Ring q, whose bytes are `ring`, is served: its window is lent to its command.
+#[tactic(auto, unfolding(crate::specs::Turn::served_of))]
 fn serve(d: Device, q: u32, mem: &mut [u8], ring: &[u8], pack: &[u8], pipe: &mut [u8]) -> Turned
     requires { Servable d q (length mem.old) ring.now (length pipe.old) }
     ensures { Shows result mem.new pipe.new (served_of d q ring.now mem.old pack.now pipe.old) }
@@ -162,6 +169,7 @@ fn serve_picked<'a>(
 }
 
 // One turn. Anything may be handed in; a refused or idle turn changes nothing.
+#[tactic(auto, unfolding(crate::specs::Turn::turn_of, crate::specs::Turn::verdict_on, crate::specs::Turn::judged_of, crate::specs::Turn::unchanged, crate::specs::Turn::picked_of))]
 pub fn turn<'a>(
     d: Device,
     mem: &mut [u8],
