@@ -22,6 +22,7 @@ pub const WRONG_WINDOWS: u32 = 203;
 pub const WINDOWS_BYTES: usize = 4 * 8;
 
 // With a limit and a start named. `memory` is the memory's length.
+#[tactic(auto, unfolding(crate::specs::Calls::fresh_with_call))]
 pub fn fresh_with_call(
     image: &mut [u8],
     windows: &[u8],
@@ -70,6 +71,7 @@ fn is_served(answer: Answer) -> bool
 }
 
 // An image that no command changed keeps its bytes, in normal form or not.
+#[tactic(auto, unfolding(crate::specs::Calls::image_after))]
 fn put_if_served(image: &mut [u8], d: Device, answer: Answer)
     requires { length image.old ≡ image_length }
     ensures { image.new ≡ image_after image.old d answer }
@@ -79,6 +81,7 @@ fn put_if_served(image: &mut [u8], d: Device, answer: Answer)
     }
 }
 
+#[tactic(auto, unfolding(crate::specs::Report::report_words, crate::specs::Calls::turn_call, crate::specs::Calls::untouched, crate::specs::Calls::called_of, crate::specs::Report::report_bytes))]
 pub fn turn_call<'a>(
     image: &mut [u8],
     mem: &mut [u8],

@@ -72,6 +72,7 @@ fn format_of(frame: Frame) -> u32
     }
 }
 
+#[tactic(auto, unfolding(crate::specs::Image::ring_words))]
 pub fn ring_words(ring: Ring) -> [u32; RING_WORDS]
     ensures { result ≡ ring_words ring }
 {
@@ -96,6 +97,7 @@ fn put_ring(image: &mut [u8], k: usize, ring: Ring)
     put_words(image, k, &words);
 }
 
+#[tactic(auto, unfolding(crate::specs::Image::ring_words, crate::specs::Image::rings_words))]
 fn put_rings(image: &mut [u8], d: Device)
     requires { 4 * slots_at ≤ length image.old }
     ensures { image.new ≡ sets image.old 0 (bytes_of (rings_words d)) }
@@ -106,6 +108,7 @@ fn put_rings(image: &mut [u8], d: Device)
     put_ring(image, RING_3_AT, d.ring(3));
 }
 
+#[tactic(auto, unfolding(crate::specs::Image::counts_words))]
 fn put_counts(image: &mut [u8], counts: Counts)
     requires { length image.old ≡ image_length }
     ensures { image.new ≡ sets image.old (4 * commands_at) (bytes_of (counts_words counts)) }
@@ -136,6 +139,7 @@ fn put_last(image: &mut [u8], d: Device)
     put_words(image, EDITION_AT, &number);
 }
 
+#[tactic(auto, unfolding(crate::specs::Image::words_of, crate::specs::Image::encode))]
 pub fn put_device(image: &mut [u8], d: Device)
     requires { length image.old ≡ image_length }
     ensures { image.new ≡ encode d }
@@ -146,6 +150,7 @@ pub fn put_device(image: &mut [u8], d: Device)
     put_last(image, d);
 }
 
+#[tactic(auto, unfolding(crate::specs::Image::frame_of))]
 fn frame_of(held: u32, base: u32, stride: u32, format: u32) -> Frame
     ensures { result ≡ frame_of held base stride format }
 {
@@ -159,6 +164,7 @@ fn frame_of(held: u32, base: u32, stride: u32, format: u32) -> Frame
     }
 }
 
+#[tactic(auto, unfolding(crate::specs::Image::ring_at))]
 fn ring_at(image: &[u8], k: usize) -> Ring
     requires { 4 * (k + ring_size) ≤ length image.now }
     ensures { result ≡ ring_at image.now k }
@@ -176,6 +182,7 @@ fn ring_at(image: &[u8], k: usize) -> Ring
     }
 }
 
+#[tactic(auto, unfolding(crate::specs::Image::counts_in))]
 fn counts_in(image: &[u8]) -> Counts
     requires { length image.now ≡ image_length }
     ensures { result ≡ counts_in image.now }
@@ -188,6 +195,7 @@ fn counts_in(image: &[u8]) -> Counts
 }
 
 // No word is a bad edition: any but 2 is edition 1.
+#[tactic(auto, unfolding(crate::specs::Image::edition_by))]
 fn edition_by(word: u32) -> Edition
     ensures { result ≡ edition_by word }
 {
@@ -197,6 +205,7 @@ fn edition_by(word: u32) -> Edition
     Edition::One
 }
 
+#[tactic(auto, unfolding(crate::specs::Image::decode))]
 pub fn device_in(image: &[u8]) -> Device
     requires { length image.now ≡ image_length }
     ensures { result ≡ decode image.now }

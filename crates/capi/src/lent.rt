@@ -13,6 +13,7 @@ pub fn word_in(bytes: &[u8], k: usize) -> u32
     word_at(bytes, 4 * k)
 }
 
+#[tactic(auto, unfolding(crate::specs::Image::window_at))]
 pub fn window_at(bytes: &[u8], k: usize) -> Window
     requires { 4 * k + 8 ≤ length bytes.now }
     ensures { result ≡ window_at bytes.now k }
@@ -24,6 +25,7 @@ pub fn window_at(bytes: &[u8], k: usize) -> Window
 }
 
 // The words become those from word k on.
+#[tactic(auto, unfolding(crate::specs::Image::bytes_of))]
 pub fn put_words(bytes: &mut [u8], k: usize, words: &[u32])
     requires { 4 * k + 4 * length words.now ≤ length bytes.old }
     ensures { bytes.new ≡ sets bytes.old (4 * k) (bytes_of words.now) }
@@ -34,6 +36,7 @@ pub fn put_words(bytes: &mut [u8], k: usize, words: &[u32])
 }
 
 // The lent words become the bytes' words from word k on.
+#[tactic(auto, unfolding(crate::specs::Image::words_in))]
 pub fn take_words(words: &mut [u32], bytes: &[u8], k: usize)
     requires { 4 * k + 4 * length words.old ≤ length bytes.now }
     ensures { words.new ≡ words_in bytes.now k (length words.old) }

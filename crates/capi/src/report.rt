@@ -16,6 +16,7 @@ fn bit(b: bool) -> u32
     if b { 1 } else { 0 }
 }
 
+#[tactic(auto, unfolding(crate::specs::Report::report_words, device::specs::Answer::values_of))]
 pub fn report_words(answer: Answer) -> [u32; REPORT_WORDS]
     ensures { result ≡ report_words answer }
 {
