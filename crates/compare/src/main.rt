@@ -2,6 +2,10 @@
 // answer is compared. Prints how many calls of each kind were made, and how many differ.
 #![tactic(auto)]
 
+use std::fs::File;
+use std::io;
+use std::io::Read;
+
 mod record;
 mod tally;
 
@@ -14,12 +18,12 @@ const MOST_CALLS: u32 = 1000000;
 // No body is longer.
 const BODY_ROOM: usize = 262144;
 
-fn compare_all(fd: i32, body: &mut [u8]) -> Tally {
+fn compare_all<R: Read>(calls: &mut R, body: &mut [u8]) -> Tally {
     let mut tally = Tally::none();
     let mut unread = MOST_CALLS;
     while 0 < unread {
         unread -= 1;
-        let n = record::next(fd, body);
+        let n = record::next(calls, body);
         if n == 0 {
             break;
         }
@@ -33,9 +37,8 @@ fn empty_body() -> [u8; BODY_ROOM] {
     [0u8; BODY_ROOM]
 }
 
-fn main() {
+fn main(rt: HostRuntime) -> io::Result<()> {
     let mut body = empty_body();
-    let fd = os::open_read(b"calls");
-    compare_all(fd, &mut body).print();
-    libc::close(fd);
+    let mut calls = File::open(&rt, "calls")?;
+    compare_all(&mut calls, &mut body).print(&rt)
 }

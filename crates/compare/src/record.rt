@@ -1,7 +1,23 @@
 // The records of a file: each is a word N and then N bytes, its body.
-ghost use Rattle.io.specs.Counts.{IsPrefixLen};
+ghost use Rattle.compare.specs.Record.{IsPrefixLen};
 
 use memory::peek::peek_word;
+use std::io::Read;
+
+// Reads until `buf` is full, the stream ends or a read fails, and gives how many bytes it put at the front of `buf`.
+fn read_full<R: Read>(stream: &mut R, buf: &mut [u8]) -> usize
+    ensures { IsPrefixLen result buf.new }
+{
+    let mut done = 0;
+    while done < buf.len() {
+        let n = stream.read(&mut buf[done..]).unwrap_or(0);
+        if n == 0 {
+            break;
+        }
+        done += n;
+    }
+    done
+}
 
 // The bytes that a count stands for, of which so many were read; 0 if it is cut short.
 fn body_size(count: &[u8], got: usize) -> usize {
@@ -11,26 +27,33 @@ fn body_size(count: &[u8], got: usize) -> usize {
     peek_word(count, 0) as usize
 }
 
+// One byte, which is no call's, or none where there is no room for it.
+fn no_record(body: &[u8]) -> usize
+    ensures { IsPrefixLen result body.now }
+{
+    if body.is_empty() { 0 } else { 1 }
+}
+
 // Reads the next body to the front of `body` and gives its length; 0 at the end of the file. What is no record (a count
 // or a body cut short, a body that is empty or too long for the room) is handed on as one byte, which is no call's.
-pub fn next(fd: i32, body: &mut [u8]) -> usize
+pub fn next<R: Read>(file: &mut R, body: &mut [u8]) -> usize
     ensures { IsPrefixLen result body.new }
 {
     let mut count = [0u8; 4];
-    let got = io::read_full(fd, &mut count);
+    let got = read_full(file, &mut count);
     if got == 0 {
         return 0;
     }
     let n = body_size(&count, got);
     if n == 0 {
-        return io::count(1, body);
+        return no_record(body);
     }
     if body.len() < n {
-        return io::count(1, body);
+        return no_record(body);
     }
-    let read = io::read_full(fd, &mut body[..n]);
+    let read = read_full(file, &mut body[..n]);
     if read < n {
-        return io::count(1, body);
+        return no_record(body);
     }
-    io::count(n as isize, body)
+    n
 }

@@ -2,12 +2,12 @@
 ghost use Rattle.std.specs.Prelude.{◌≡◌};
 ghost use Rattle.compare.specs.Tally.{tally_of, with_turn, judged, counted, enough_served};
 
-use libc::STDOUT_FILENO;
 use recorded::call::Seen;
+use std::io;
 use words::arithmetic::add;
 use words::choice::both;
 
-#[derive(Clone, Copy)]
+#[derive(Drop)]
 pub struct Tally {
     fresh: u32,
     served: u32,
@@ -29,6 +29,7 @@ impl Tally {
         }
     }
 
+    #[tactic(auto, unfolding(crate::specs::Tally::judged))]
     fn judged(mut self, is_same: bool) -> Self
         ensures { result ≡ judged self is_same }
     {
@@ -39,6 +40,7 @@ impl Tally {
         self
     }
 
+    #[tactic(auto, unfolding(crate::specs::Tally::with_turn))]
     fn with_turn(mut self, status: u32) -> Self
         ensures { result ≡ with_turn self status }
     {
@@ -52,6 +54,7 @@ impl Tally {
         self
     }
 
+    #[tactic(auto, unfolding(crate::specs::Tally::counted))]
     pub fn with(mut self, seen: Seen) -> Self
         ensures { result ≡ counted self seen }
     {
@@ -66,6 +69,7 @@ impl Tally {
     }
 
     // Whether enough turns were served: what serves nothing shows nothing.
+    #[tactic(auto, unfolding(crate::specs::Tally::enough_served))]
     fn is_enough(self) -> bool
         ensures { result ≡ enough_served self }
     {
@@ -74,19 +78,20 @@ impl Tally {
         both(1 <= served, turns <= 10 * served)
     }
 
-    pub fn print(self) {
-        print_count(self.fresh, b" fresh\n");
-        print_count(self.served, b" served\n");
-        print_count(self.idle, b" idle\n");
-        print_count(self.refused, b" refused\n");
-        print_count(self.differ, b" differ\n");
+    pub fn print(self, rt: &impl Print) -> io::Result<()> {
+        print_count(rt, self.fresh, b" fresh\n")?;
+        print_count(rt, self.served, b" served\n")?;
+        print_count(rt, self.idle, b" idle\n")?;
+        print_count(rt, self.refused, b" refused\n")?;
+        print_count(rt, self.differ, b" differ\n")?;
         if !self.is_enough() {
-            io::write_all(STDOUT_FILENO, b"too few served\n");
+            rt.write_all(b"too few served\n")?;
         }
+        Ok(())
     }
 }
 
-fn print_count(count: u32, what: &[u8]) {
-    io::print_decimal(STDOUT_FILENO, count as u64);
-    io::write_all(STDOUT_FILENO, what);
+fn print_count(rt: &impl Print, count: u32, what: &[u8]) -> io::Result<()> {
+    rt.print(count)?;
+    rt.write_all(what)
 }

@@ -14,6 +14,7 @@ pub enum Seen {
     Damaged,
 }
 
+#[tactic(auto, unfolding(crate::specs::Call::call_seen))]
 pub fn compare(body: &[u8]) -> Seen
     ensures { result ≡ call_seen body.now }
 {

@@ -30,6 +30,7 @@ fn pieces_of(named: Named) -> usize
 }
 
 // Whether what is named is of 4 bytes.
+#[tactic(auto, unfolding(crate::specs::Fresh::are_words))]
 fn are_words(body: &[u8], named: Named) -> bool
     ensures { result ≡ are_words body.now named }
 {
@@ -41,6 +42,7 @@ fn are_words(body: &[u8], named: Named) -> bool
 }
 
 // Whether the pieces have the lengths of those of a call.
+#[tactic(auto, unfolding(crate::specs::Fresh::are_whole))]
 fn are_whole(body: &[u8], named: Named) -> bool
     ensures { result ≡ are_whole body.now named }
 {
@@ -53,6 +55,7 @@ fn are_whole(body: &[u8], named: Named) -> bool
 }
 
 // Makes the recorded call on these pieces.
+#[tactic(auto, unfolding(crate::specs::Fresh::fresh_made))]
 fn make_again(image: &mut [u8], windows: &[u8], body: &[u8], named: Named) -> u32
     requires { Laid body.now image.old windows.now }
     ensures { Freshens image.new result (fresh_made body.now named) }
@@ -69,6 +72,7 @@ fn make_again(image: &mut [u8], windows: &[u8], body: &[u8], named: Named) -> u3
     }
 }
 
+#[tactic(auto, unfolding(crate::specs::Fresh::fresh_seen, crate::specs::Fresh::fresh_recorded))]
 pub fn compare(body: &[u8], named: Named) -> Seen
     ensures { result ≡ fresh_seen body.now named }
 {

@@ -8,6 +8,7 @@ use memory::peek::{peek_byte, peek_word};
 use words::choice::both;
 
 // Where the entry at a place of the body ends. From the body's end on there is none.
+#[tactic(auto, unfolding(crate::specs::Piece::entry_end))]
 fn entry_end(body: &[u8], at: usize) -> usize
     ensures { result ≡ entry_end body.now at }
 {
@@ -18,6 +19,7 @@ fn entry_end(body: &[u8], at: usize) -> usize
 }
 
 // Where the entry of piece `k` starts, or the last one ends if there are k pieces.
+#[tactic(auto, unfolding(crate::specs::Piece::place_of))]
 pub fn place_of(body: &[u8], k: usize) -> usize
     ensures { result ≡ place_of body.now k }
 {
@@ -28,6 +30,7 @@ pub fn place_of(body: &[u8], k: usize) -> usize
     at
 }
 
+#[tactic(auto, unfolding(crate::specs::Piece::entry_of))]
 fn entry_of(body: &[u8], k: usize) -> &[u8]
     ensures { result.now ≡ entry_of body.now k }
 {
@@ -36,6 +39,7 @@ fn entry_of(body: &[u8], k: usize) -> &[u8]
     bytes_of(body, Part { start, end })
 }
 
+#[tactic(auto, unfolding(crate::specs::Piece::length_of))]
 pub fn length_of(body: &[u8], k: usize) -> usize
     ensures { result ≡ length_of body.now k }
 {
@@ -43,6 +47,7 @@ pub fn length_of(body: &[u8], k: usize) -> usize
 }
 
 // The word that piece `k` is, of four bytes.
+#[tactic(auto, unfolding(crate::specs::Piece::word_of))]
 pub fn word_of(body: &[u8], k: usize) -> u32
     ensures { result ≡ word_of body.now k }
 {
@@ -50,6 +55,7 @@ pub fn word_of(body: &[u8], k: usize) -> u32
 }
 
 // The number that piece `k` is, of at most eight bytes.
+#[tactic(auto, unfolding(crate::specs::Piece::number_of, crate::specs::Piece::word_of))]
 pub fn number_of(body: &[u8], k: usize) -> usize
     ensures { result ≡ number_of body.now k }
 {
@@ -59,6 +65,7 @@ pub fn number_of(body: &[u8], k: usize) -> usize
 }
 
 // Piece `k` laid to the front of the target, which is handed back as long as the piece.
+#[tactic(auto, unfolding(crate::specs::Piece::first_bytes))]
 pub fn laid<'a>(target: &'a mut [u8], body: &[u8], k: usize) -> &'a mut [u8]
     requires { length_of body.now k ≤ length target.old }
     ensures { result.now ≡ piece_bytes body.now k }
@@ -72,6 +79,7 @@ pub fn laid<'a>(target: &'a mut [u8], body: &[u8], k: usize) -> &'a mut [u8]
 }
 
 // Whether the bytes are those of piece `k`, all of them and no more.
+#[tactic(auto, unfolding(words::specs::Choice::all_below, crate::specs::Piece::same_as))]
 pub fn is_same(bytes: &[u8], body: &[u8], k: usize) -> bool
     ensures { result ≡ is_piece bytes.now body.now k }
 {

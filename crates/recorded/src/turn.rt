@@ -30,6 +30,7 @@ const MOST: [usize; 8] = [
 ];
 
 // Whether there is room for each of them.
+#[tactic(auto, unfolding(words::specs::Choice::all_below, crate::specs::Turn::has_room))]
 fn has_room(body: &[u8]) -> bool
     ensures { result ≡ has_room body.now }
 {
@@ -42,6 +43,7 @@ fn has_room(body: &[u8]) -> bool
 }
 
 // Whether a turn left and returned what is recorded.
+#[tactic(auto, unfolding(crate::specs::Turn::turn_recorded))]
 fn is_recorded(
     body: &[u8],
     image: &[u8],
@@ -102,6 +104,7 @@ fn empty_ring() -> [u8; RING_ROOM] {
 }
 
 // Lays the pieces into rooms of their own, and makes the call.
+#[tactic(auto, unfolding(crate::specs::Turn::turn_seen))]
 pub fn compare(body: &[u8]) -> Seen
     ensures { result ≡ turn_seen body.now }
 {

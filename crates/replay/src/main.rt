@@ -2,15 +2,16 @@
 // each turn. What it prints is the text of `play::transcribe`.
 #![tactic(auto)]
 
-use libc::STDOUT_FILENO;
+use std::io;
 
 mod play;
+mod reading;
 mod text;
 
-fn main() {
-    let mut input = io::large_buffer();
-    let n = io::read_full(0, &mut input);
+fn main(rt: HostRuntime) -> io::Result<()> {
+    let mut input = reading::large_buffer();
+    let n = reading::read_full(&mut rt.stdin(), &mut input);
     let mut text = text::buffer();
     let k = play::transcribe(&input[..n], &mut text);
-    io::write_all(STDOUT_FILENO, &text[..k]);
+    rt.write_all(&text[..k])
 }

@@ -7,6 +7,7 @@ ghost use Rattle.job.specs.Parse.{parts_of};
 ghost use Rattle.spelling.specs.Put.{Spelled};
 ghost use Rattle.replay.specs.Transcript.{all_lines, as_window, empty_pipe, first_call, job_text, transcript_of};
 
+use crate::reading::large_buffer;
 use crate::text::{TEXT_BYTES, append, append_idle, append_refused, append_turn};
 use device::fresh::{Making, make};
 use device::turn::{Answer, turn};
@@ -16,6 +17,7 @@ use state::device::{Device, Window};
 use state::refusal::refusal_number;
 
 // Turns until idle or refused. Each served turn takes bytes of a ring, so the loop ends and the text has room.
+#[tactic(auto, unfolding(crate::specs::Transcript::empty_pipe, device::specs::Untaken::untaken_in))]
 fn play_turns<'a>(
     device: Device,
     memory: &mut [u8],
@@ -59,7 +61,7 @@ fn play_on(device: Device, input: &[u8], job: Job, text: &mut [u8]) -> usize
     let r2 = bytes_of(input, job.ring2);
     let r3 = bytes_of(input, job.ring3);
     let pack = bytes_of(input, job.pack);
-    let mut memory = io::large_buffer();
+    let mut memory = large_buffer();
     let n = append(&mut memory, 0, words);
     play_turns(device, &mut memory[..n], r0, r1, r2, r3, pack, text)
 }

@@ -12,6 +12,7 @@ use spelling::line::{spell_idle, spell_refused, spell_turn};
 pub const TEXT_BYTES: usize = 262144;
 
 // For a caller with no bytes to lend.
+#[tactic(auto, unfolding(crate::specs::Text::empty_text))]
 pub fn buffer() -> [u8; TEXT_BYTES]
     ensures { result ≡ empty_text }
 {
@@ -39,6 +40,7 @@ fn append_line(text: &mut [u8], n: usize, line: &[u8; 64], k: usize) -> usize
     append(text, n, &whole[..k])
 }
 
+#[tactic(auto, unfolding(device::specs::Answer::values_of))]
 pub fn append_turn(text: &mut [u8], n: usize, turn: u32, report: Report) -> usize
     requires { n + 64 ≤ length text.old }
     ensures appended { Appended (served_line turn report) n text.old text.new result }
