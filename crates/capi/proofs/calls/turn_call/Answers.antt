@@ -22,7 +22,7 @@ pub returns : goal.returns
 unfolding turn_call called_of report_bytes
 returns c = let s = c.args in
     let image : length s.image.now ≡ image_length = omega (arith, c.if-image-ne-IMAGE_BYTES.false) in
-    let report : length s.report.now ≡ report_length = omega (arith, c.if-report-ne-REPORT_BYTES.false) in
+    let report : length s.report.now ≡ report_length = search rules in
     let turned = c.turn-turned.ensures in
     let words = c.report_words-words in
     let size : 4 * length words.result ≡ report_length = search rules in
