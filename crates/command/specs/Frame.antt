@@ -6,12 +6,12 @@ use Rattle.command.specs.declared.frame.Frame.{Frame}
 use Rattle.command.specs.declared.frame.Frame.TheVariants.{Unset, Held}
 
 -- not a multiple of 4
-abbrev pub not_aMultiple : ℕ → Bool
-not_aMultiple x = not (eqb (x % 4) 0)
+abbrev pub not_a_multiple : ℕ → Bool
+not_a_multiple x = not (eqb (x % 4) 0)
 
 -- 6: base or stride not a multiple of 4
 unfoldable pub frame_misaligned : ℕ → ℕ → Bool
-frame_misaligned base stride = not_aMultiple base || not_aMultiple stride
+frame_misaligned base stride = not_a_multiple base || not_a_multiple stride
 
 -- 8: base not below the window's length
 abbrev pub frame_outside : ℕ → ℕ → Bool

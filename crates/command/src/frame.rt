@@ -1,6 +1,6 @@
 // A ring's frame, and the test that SET_FB makes of one.
 ghost use Rattle.std.specs.Prelude.{◌≡◌};
-ghost use Rattle.command.specs.Frame.{not_aMultiple, frame_misaligned, frame_outside, frame_unfit, frame_fault, held_fault, stride_of};
+ghost use Rattle.command.specs.Frame.{not_a_multiple, frame_misaligned, frame_outside, frame_unfit, frame_fault, held_fault, stride_of};
 
 use crate::outcome::Outcome;
 use words::choice::one_of;
@@ -12,7 +12,7 @@ pub enum Frame {
 }
 
 pub fn not_a_multiple(x: u32) -> bool
-    ensures { result ≡ not_aMultiple x }
+    ensures { result ≡ not_a_multiple x }
 {
     x % 4 != 0
 }

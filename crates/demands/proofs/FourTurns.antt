@@ -66,7 +66,7 @@ HeadReady b k d = ready_with d.edition (command_at b k) (slot_of d (command_at b
 -- the head command of ring q is ready in devices that are Kept, and served turns over calls that are Lent keep them so
 module _ (q : ℕ) (b : List ℕ) (k : ℕ) (Kept : Device → Type 0) (Lent : Call → Type 0) (ready-now : (d : Device) → Kept d → HeadReady b k d)
     (same_head : (call : Call) → Lent call → SameHead b k (ring_in call q))
-    (Keeps-on : (d : Device) (call : Call) (r : ℕ) → Kept d → Lent call → verdict_on d call ≡ Sound → pick_in d call ≡ RingOf r
+    (keeps_on : (d : Device) (call : Call) (r : ℕ) → Kept d → Lent call → verdict_on d call ≡ Sound → pick_in d call ≡ RingOf r
     → Kept (served_in d call r).turned.device) where
   -- the ring is j further than the marker
   record Waiting (j : ℕ) (d : Device) : Type 0 where
@@ -122,7 +122,7 @@ module _ (q : ℕ) (b : List ℕ) (k : ℕ) (Kept : Device → Type 0) (Lent : C
         let near = reached (same_head call lent) in
         let i = near.0 in
         let found : r ≡ walk i d.marker = cc near.2 in
-        rw found (go i near.1 (eqb (walk i d.marker) q) refl (rw found at (Keeps-on d call r w.kept lent sound e)))
+        rw found (go i near.1 (eqb (walk i d.marker) q) refl (rw found at (keeps_on d call r w.kept lent sound e)))
       where
         go : (i : ℕ) → i ≤ j → (t : Bool) → eqb (walk i d.marker) q ≡ t → Kept (served_in d call (walk i d.marker)).turned.device
             → Step j d (served_in d call (walk i d.marker))

@@ -30,7 +30,7 @@ module _ (to from words : ℕ) (m : List ℕ) where
 
   pub word-turn : (i k word : ℕ) (x : List ℕ) → i < words → k ≡ at_turn to from words i → x ≡ ordered to from words (word_put to from m) i m
       → word ≡ word_at x (from + 4 * k) → with_word x (to + 4 * k) word ≡ ordered to from words (word_put to from m) (i + 1) m
-  word-turn i k word x below is-k is_x is_IsWord = rw (is_IsWord, is-k, is_x, kept) (sym (after_more _ i m))
+  word-turn i k word x below is-k is_x is_word = rw (is_word, is-k, is_x, kept) (sym (after_more _ i m))
     where
       kept : word_at (ordered to from words (word_put to from m) i m) (from + 4 * at_turn to from words i) ≡ word_at m (from + 4 * at_turn to from words i)
       kept =

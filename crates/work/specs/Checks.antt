@@ -8,7 +8,7 @@ use Rattle.command.specs.declared.frame.Frame.{Frame}
 use Rattle.command.specs.Opcode.{dispatch_1d, set_fb}
 use Rattle.command.specs.Flags.{emit_bit}
 use Rattle.command.specs.Table.{row_of}
-use Rattle.command.specs.Frame.{not_aMultiple, frame_misaligned, frame_outside, frame_unfit}
+use Rattle.command.specs.Frame.{not_a_multiple, frame_misaligned, frame_outside, frame_unfit}
 use Rattle.work.specs.Shape.{is_rectangle, width_of, height_of, too_narrow, end_of}
 
 -- 5: emit set and the slot is full
@@ -18,8 +18,8 @@ slot_fault c full = cond (emit_bit c.flags && full) SlotFull Done
 -- 6: an address (01, 02, 10, 11, 23), or SET_FB's base or stride, not a multiple of 4
 unfoldable pub misaligned : Command → Bool
 misaligned c =
-    (row_of c.opcode).address0 && not_aMultiple c.arg0
-    || (row_of c.opcode).address1 && not_aMultiple c.arg1
+    (row_of c.opcode).address0 && not_a_multiple c.arg0
+    || (row_of c.opcode).address1 && not_a_multiple c.arg1
     || eqb c.opcode set_fb && frame_misaligned c.arg0 c.arg1
 
 -- 7: FILL or BLIT with no frame; or, width and height nonzero, 4·width above the stride
