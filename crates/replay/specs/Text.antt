@@ -10,3 +10,7 @@ pub record Appended (bytes : List ℕ) (n : ℕ) (before after : List ℕ) (answ
 -- a text before anything is written: 262,144 zeros
 unfoldable pub empty_text : List ℕ
 empty_text = replicate 262144 0
+
+-- a room for an input or a memory before anything is put there: 65,536 zeros
+unfoldable pub empty_room : List ℕ
+empty_room = replicate 65536 0

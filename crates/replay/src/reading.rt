@@ -1,5 +1,6 @@
 // Bytes read from a stream, and a place for them.
 ghost use Rattle.std.specs.Prelude.{◌≡◌, ◌≤◌, length};
+ghost use Rattle.replay.specs.Text.{empty_room};
 
 use std::io::Read;
 
@@ -7,8 +8,10 @@ use std::io::Read;
 pub const LARGE_BYTES: usize = 65536;
 
 // As a result it has its length by type, and no proof counts it.
+#[tactic(auto, unfolding(crate::specs::Text::empty_room))]
 pub fn large_buffer() -> [u8; LARGE_BYTES]
-    ensures { 65536 ≡ length result }
+    ensures zeros { result ≡ empty_room }
+    ensures long { 65536 ≡ length result }
 {
     [0; LARGE_BYTES]
 }

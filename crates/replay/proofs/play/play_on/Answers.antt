@@ -7,7 +7,7 @@ use Rattle.replay.proofs.play.play_on.Goals as goal
 pub append-n-requires : goal.append-n-requires
 append-n-requires c =
     let fits = as_short c.bytes_of-words.ensures (memory_fits _ _ c.requires.1) in
-    omega (arith, fits, c.large_buffer-memory.ensures)
+    omega (arith, fits, c.large_buffer-memory.ensures.long)
 
 pub play_turns-requires : goal.play_turns-requires
 play_turns-requires c =
