@@ -1,5 +1,6 @@
 -- A fresh device is formed, and so is the device that a turn of a formed one leaves.
 -- Assumes nothing.
+use Rattle.std.proofs.Common.{Option, Some, None}
 use mathlib.Core.Path.{◌≡◌, refl}
 use mathlib.Core.Bool.{Bool, true, false}
 use mathlib.Core.List.{List, [], ◌∷◌, ◌++◌}
@@ -11,10 +12,10 @@ use Rattle.memory.proofs.Places.{word_fits}
 use Rattle.command.specs.declared.header.Command.{Command}
 use Rattle.command.specs.declared.frame.Frame.{Frame}
 use Rattle.work.specs.declared.work.Performed.{Performed}
-use Rattle.command.specs.Frame.{stride_of}
+use Rattle.command.specs.Frame.{held_by, stride_of}
 use Rattle.command.specs.Header.{command_at}
 use Rattle.command.specs.Report.{emits}
-use Rattle.work.specs.Work.{Left, leaves, ran_as, after_dispatch, held_by}
+use Rattle.work.specs.Work.{Left, leaves, ran_as, after_dispatch}
 use Rattle.work.specs.Perform.{performed_of}
 use Rattle.work.proofs.Works.{work_has}
 use Rattle.work.proofs.Performs.{performed_has}
@@ -26,7 +27,7 @@ use Rattle.state.specs.declared.edition.Edition.TheVariants.{One, Two}
 use Rattle.state.specs.declared.edition.Start.{Start}
 use Rattle.state.specs.declared.edition.Start.TheVariants.{Edition1}
 use Rattle.state.specs.Edition.{first_of}
-use Rattle.state.specs.Device.{Shaped, SlotsFit, CountsFit, empty_window, default_limit, fresh_device, empty_device, ring_of, slot_of, commands_of, outcomes_of, with_ring, with_marker, with_counts}
+use Rattle.state.specs.Device.{Shaped, SlotsFit, CountsFit, empty_window, empty_windows, nth_window, default_limit, fresh_device, empty_device, ring_of, slot_of, commands_of, outcomes_of, with_ring, with_marker, with_counts}
 use Rattle.device.specs.Turn.{ring_in, unchanged, ring_after, device_after, finished, served_of}
 use Rattle.state.proofs.Seeks.{next_below}
 use Rattle.state.proofs.Limits.{limit_within}
@@ -41,7 +42,7 @@ use Rattle.capi.specs.Follows.{FreshForms, TurnForms}
 use Rattle.capi.proofs.Fits.{Fits, fits-none, fits_more, fits_both, fits-left, fits-right, fits_alike}
 
 -- what is below 2^32 in a frame, and in a ring
-record FrameFits (f : Frame) : Type 0 where
+record FrameFits (f : Option Frame) : Type 0 where
   held : held_of f < 2 ^ 32
   base : base_of f < 2 ^ 32
   stride : stride_of f < 2 ^ 32
@@ -116,11 +117,11 @@ module _ (d : Device) where
         (fits-right (ring_words (ring_of d 0) ++ ring_words (ring_of d 1) ++ ring_words (ring_of d 2)) all)
 
 -- a command leaves its frame, or the one of its arguments
-module _ (ring : List ℕ) (bytes : OfBytes ring) (cursor : ℕ) (full : Bool) (window : List ℕ) (frame : Frame) (pack pipe : List ℕ) (limit : ℕ) (h : FrameFits frame) where
+module _ (ring : List ℕ) (bytes : OfBytes ring) (cursor : ℕ) (full : Bool) (window : List ℕ) (frame : Option Frame) (pack pipe : List ℕ) (limit : ℕ) (h : FrameFits frame) where
   abbrev c : Command
   c = command_at ring cursor
 
-  held_fits : FrameFits (held_by c)
+  held_fits : FrameFits (Some (held_by c))
   unfolding held_by command_at
   held_fits = record { held = omega arith; base = word_fits ring _ bytes; stride = word_fits ring _ bytes; format = word_fits ring _ bytes }
 
@@ -182,21 +183,24 @@ turn-forms d is call bytes =
 abbrev WindowFits : Window → Type 0
 WindowFits w = (w.start < 2 ^ 32) × (w.length < 2 ^ 32)
 
-fresh_ring : (w : Window) → WindowFits w → Fits (ring_words (record { window = w; cursor = 0; frame = Frame.Unset }))
+fresh_ring : (w : Window) → WindowFits w → Fits (ring_words (record { window = w; cursor = 0; frame = None }))
 fresh_ring w h = ring_fits _ h.0 h.1 (omega arith) (record { held = omega arith; base = omega arith; stride = omega arith; format = omega arith })
 
-fresh-formed : (w0 w1 w2 w3 : Window) (limit : ℕ) (start : Start) → WindowFits w0 → WindowFits w1 → WindowFits w2 → WindowFits w3
-    → limit < 2 ^ 32 → first_of start < 2 ^ 32 → Formed (fresh_device w0 w1 w2 w3 limit start)
+fresh-formed : (windows : List Window) (limit : ℕ) (start : Start) → ((q : ℕ) → q < 4 → WindowFits (nth_window windows q))
+    → limit < 2 ^ 32 → first_of start < 2 ^ 32 → Formed (fresh_device windows limit start)
 unfolding fresh_device ring_of commands_of outcomes_of
-fresh-formed w0 w1 w2 w3 limit start h0 h1 h2 h3 h first =
-    let d = fresh_device w0 w1 w2 w3 limit start in
-    formed d (fresh-shaped w0 w1 w2 w3 limit start)
-    (each_of_four (λ q. Fits (ring_words (ring_of d q))) (fresh_ring w0 h0) (fresh_ring w1 h1) (fresh_ring w2 h2) (fresh_ring w3 h3))
+fresh-formed windows limit start each h first =
+    let d = fresh_device windows limit start in
+    formed d (fresh-shaped windows limit start)
+    (each_of_four (λ q. Fits (ring_words (ring_of d q))) (fresh_ring _ (each 0 (omega arith))) (fresh_ring _ (each 1 (omega arith)))
+    (fresh_ring _ (each 2 (omega arith))) (fresh_ring _ (each 3 (omega arith))))
     (fits_alike 64 first) (omega arith) h (record { commands = (fits_alike 4 (omega arith)).at; outcomes = (fits_alike 15 (omega arith)).at })
 
 empty-formed : Formed empty_device
 unfolding empty_device
-empty-formed = fresh-formed empty_window empty_window empty_window empty_window default_limit Edition1 empty empty empty empty (omega arith) (omega arith)
+empty-formed =
+    fresh-formed empty_windows default_limit Edition1
+    (each_of_four (λ q. WindowFits (nth_window empty_windows q)) empty empty empty empty) (omega arith) (omega arith)
   where
     empty : WindowFits empty_window
     empty = (omega arith, omega arith)
@@ -204,8 +208,13 @@ empty-formed = fresh-formed empty_window empty_window empty_window empty_window 
 pub fresh-forms : FreshForms
 unfolding window_at
 fresh-forms windows memory limit start bytes first =
-    made_each Formed memory _ _ _ _ limit start empty-formed
-    (λ fits. fresh-formed _ _ _ _ limit start (at 0) (at 2) (at 4) (at 6) (omega (arith, (limit_within limit fits).1)) first)
+    made_each Formed memory four limit start empty-formed
+    (λ fits.
+    fresh-formed four limit start
+    (each_of_four (λ q. WindowFits (nth_window four q)) (at 0) (at 2) (at 4) (at 6)) (omega (arith, (limit_within limit fits).1)) first)
   where
+    four : List Window
+    four = window_at windows 0 ∷ window_at windows 2 ∷ window_at windows 4 ∷ window_at windows 6 ∷ []
+
     at : (k : ℕ) → WindowFits (window_at windows k)
     at k = (word_fits windows _ bytes, word_fits windows _ bytes)

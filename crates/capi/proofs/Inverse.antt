@@ -1,14 +1,14 @@
 -- An image says all of a device, and a device all of an image in normal form.
 -- Assumes nothing.
+use Rattle.std.proofs.Common.{Option, Some, None}
 use mathlib.Core.Path.{◌≡◌, refl, ap, ◌∙◌}
 use mathlib.Core.List.{List, [], ◌∷◌, ◌++◌, append_assoc}
 use Prim.Native.Nat.{ℕ, ◌+◌, ◌≤◌}
 use native.Mathlib.Nat.{add-zero, zero-add}
 use native.Mathlib.Omega.{arith}
-use lib.ListN.{length, get_or, take, drop}
+use lib.ListN.{take, drop}
 use lib.Seq.{take_all, take_at, drop_at, drop-append-add}
 use Rattle.command.specs.declared.frame.Frame.{Frame}
-use Rattle.command.specs.declared.frame.Frame.TheVariants.{Unset, Held}
 use Rattle.command.specs.Frame.{stride_of}
 use Rattle.state.specs.declared.device.Ring.{Ring}
 use Rattle.state.specs.declared.edition.Edition.{Edition}
@@ -16,13 +16,14 @@ use Rattle.state.specs.declared.edition.Edition.TheVariants.{One, Two}
 use Rattle.state.specs.Device.{empty_window, fresh_ring, ring_of}
 use Rattle.capi.specs.Image.{word_in, words_in, held_of, base_of, format_of, ring_words, rings_words, counts_words, words_of, encode, frame_of, window_at, ring_at, counts_in, edition_number, last_words, edition_by, decode, image_length, image_words, edition_at, outcomes_at, commands_at, limit_at, marker_at, slots_at}
 use Rattle.capi.specs.Inverse.{Normal, NormalFrame, held, unset, NormalEdition, one, two, DecodeEncode, EncodeDecode}
+use Rattle.capi.proofs.Gathered.{four}
 use Rattle.capi.proofs.Sizes.{words-length, counts-length}
 use Rattle.capi.proofs.WordBytes.{words_in-bytes, words_in-append, bytes_of_words_in}
 
-frame_back : (f : Frame) → frame_of (held_of f) (base_of f) (stride_of f) (format_of f) ≡ f
+frame_back : (f : Option Frame) → frame_of (held_of f) (base_of f) (stride_of f) (format_of f) ≡ f
 unfolding frame_of
-frame_back Unset = refl
-frame_back (Held base stride format) = refl
+frame_back None = refl
+frame_back (Some frame) = refl
 
 edition-back : (e : Edition) → edition_by (edition_number e) ≡ e
 unfolding edition_by
@@ -42,14 +43,6 @@ ring-back image k r e =
     let w5 : word_in image (k + 5) ≡ stride_of r.frame = cc words in
     let w6 : word_in image (k + 6) ≡ format_of r.frame = cc words in
     rw (w0, w1, w2, w3, w4, w5, w6, frame_back r.frame)
-
-four : (x : Ring) (rs : List Ring) → length rs ≡ 4 → get_or rs 0 x ∷ get_or rs 1 x ∷ get_or rs 2 x ∷ get_or rs 3 x ∷ [] ≡ rs
-four x (a ∷ b ∷ c ∷ d ∷ []) h = refl
-four x [] h = absurd (omega arith)
-four x (a ∷ []) h = absurd (omega arith)
-four x (a ∷ b ∷ []) h = absurd (omega arith)
-four x (a ∷ b ∷ c ∷ []) h = absurd (omega arith)
-four x (a ∷ b ∷ c ∷ d ∷ e ∷ rs) h = absurd (omega arith)
 
 -- the marker and the limit are two words in a row
 marker_and_limit : (image : List ℕ) → word_in image marker_at ∷ word_in image limit_at ∷ [] ≡ words_in image marker_at 2

@@ -7,3 +7,4 @@ pub mod OneAnswer
 pub mod Fits
 pub mod Forms
 pub mod Imaged
+pub mod Gathered

@@ -7,7 +7,7 @@ use native.Mathlib.Nat.{add-zero, zero-add, add-suc, add_assoc}
 use native.Mathlib.Numerals.{add-one}
 use native.Mathlib.Omega.{arith}
 use lib.ListN.{length, get_or, take, drop, length-drop}
-use lib.Seq.{sets, length-take-le, take-suc, take-add, drop-cons, get_or-drop}
+use lib.Seq.{sets, take_all, length-take-le, take-suc, take-add, drop-cons, get_or-drop}
 use Rattle.words.proofs.ByteLaws.{word_of_its_bytes, byte_0_of_word, byte_1_of_word, byte_2_of_word, byte_3_of_word}
 use Rattle.memory.specs.Place.{word_at, with_word}
 use Rattle.capi.specs.Image.{bytes_of, word_in, words_in}
@@ -75,6 +75,15 @@ words_in-bytes ws fit k zero h = refl
 words_in-bytes ws fit k (suc n) h =
     let inside : n < length (drop k ws) = simp length-drop (omega arith) in
     rw (take-suc (drop k ws) n 0 inside, get_or-drop k ws n 0, words_in-bytes ws fit k n (omega arith), word_in-bytes ws (k + n) (omega arith) (fit (k + n)))
+
+-- a row of which each word stands in the bytes is read out of them
+pub words_in_each : (m : List ℕ) (k n : ℕ) (ws : List ℕ) → length ws ≡ n → ((i : ℕ) → i < n → get_or ws i 0 ≡ word_in m (k + i)) → ws ≡ words_in m k n
+unfolding words_in
+words_in_each m k n ws long each = sym (take_all n ws (omega arith)) ∙ go n (omega arith)
+  where
+    go : (i : ℕ) → i ≤ n → take i ws ≡ words_in m k i
+    go zero h = refl
+    go (suc i) h = rw (take-suc ws i 0 (omega arith), go i (omega arith), each i h) refl
 
 -- two rows, one after the other, are one
 pub words_in-append : (m : List ℕ) (k a b : ℕ) → words_in m k a ++ words_in m (k + a) b ≡ words_in m k (a + b)

@@ -1,5 +1,5 @@
 -- What the calls leave in the bytes that they are lent, and what they answer.
-use Rattle.std.specs.Prelude.{ℕ, ◌*◌, ◌≡◌, Bool, cond, List, eqb, length}
+use Rattle.std.specs.Prelude.{ℕ, ◌*◌, ◌≡◌, Bool, cond, List, [], ◌∷◌, eqb, length}
 use Rattle.state.specs.declared.device.Device.{Device}
 use Rattle.state.specs.declared.edition.Start.{Start}
 use Rattle.state.specs.declared.edition.Start.TheVariants.{Edition1}
@@ -29,7 +29,7 @@ windows_length = 4 * 8
 -- a fresh device of four windows, with a limit and a start named
 abbrev pub fresh_for : List ℕ → ℕ → ℕ → Start → Fresh
 fresh_for windows memory limit start =
-    fresh_with memory (window_at windows 0) (window_at windows 2) (window_at windows 4) (window_at windows 6) limit start
+    fresh_with memory (window_at windows 0 ∷ window_at windows 2 ∷ window_at windows 4 ∷ window_at windows 6 ∷ []) limit start
 
 -- what a making gives: its device's image and its number
 abbrev pub freshened : Fresh → Freshened

@@ -1,10 +1,9 @@
 -- The image of a device: little-endian words. Each ring has seven, then come the 64 slots, the marker, the limit, the commands
 -- that each ring has taken, a count for each outcome and the edition.
-use Rattle.std.specs.Prelude.{cond, ℕ, zero, suc, ◌+◌, ◌*◌, List, [], ◌∷◌, ◌++◌, eqb}
+use Rattle.std.specs.Prelude.{cond, ℕ, zero, suc, ◌+◌, ◌*◌, List, [], ◌∷◌, ◌++◌, eqb, Option, Some, None}
 use Rattle.words.specs.Bytes.{byte_of}
 use Rattle.memory.specs.Place.{word_at}
 use Rattle.command.specs.declared.frame.Frame.{Frame}
-use Rattle.command.specs.declared.frame.Frame.TheVariants.{Unset, Held}
 use Rattle.command.specs.Frame.{stride_of}
 use Rattle.state.specs.declared.counts.Counts.{Counts}
 use Rattle.state.specs.declared.edition.Edition.{Edition}
@@ -58,19 +57,19 @@ words_in bytes k zero = []
 words_in bytes k (suc n) = words_in bytes k n ++ (word_in bytes (k + n) ∷ [])
 
 -- 1 of a held frame; 0 of no frame
-abbrev pub held_of : Frame → ℕ
-held_of Unset = 0
-held_of (Held base stride format) = 1
+abbrev pub held_of : Option Frame → ℕ
+held_of None = 0
+held_of (Some frame) = 1
 
 -- a frame's base; 0 of no frame
-abbrev pub base_of : Frame → ℕ
-base_of Unset = 0
-base_of (Held base stride format) = base
+abbrev pub base_of : Option Frame → ℕ
+base_of None = 0
+base_of (Some frame) = frame.base
 
 -- a frame's format; 0 of no frame
-abbrev pub format_of : Frame → ℕ
-format_of Unset = 0
-format_of (Held base stride format) = format
+abbrev pub format_of : Option Frame → ℕ
+format_of None = 0
+format_of (Some frame) = frame.format
 
 -- a ring's seven words
 unfoldable pub ring_words : Ring → List ℕ
@@ -103,8 +102,8 @@ unfoldable pub encode : Device → List ℕ
 encode d = bytes_of (words_of d)
 
 -- the frame of four words: any first word but 0 holds one
-unfoldable pub frame_of : ℕ → ℕ → ℕ → ℕ → Frame
-frame_of held base stride format = cond (eqb held 0) Unset (Held base stride format)
+unfoldable pub frame_of : ℕ → ℕ → ℕ → ℕ → Option Frame
+frame_of held base stride format = cond (eqb held 0) None (Some (record { base = base; stride = stride; format = format }))
 
 -- the window of the two words from word k on
 unfoldable pub window_at : List ℕ → ℕ → Window

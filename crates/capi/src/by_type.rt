@@ -29,5 +29,5 @@ pub fn of_every_device(d: Device) -> Device
 pub fn of_lent_bytes(bytes: &[u8]) -> u8
     ensures { (result ≡ get_or bytes.now 0 0) × OfBytes bytes.now }
 {
-    if 0 < bytes.len() { bytes[0] } else { 0 }
+    bytes.first().copied().unwrap_or(0)
 }

@@ -7,10 +7,11 @@ ghost use Rattle.capi.specs.Calls.{is_served, image_after, fresh_with_call, fres
 use crate::image::{IMAGE_BYTES, device_in, put_device};
 use crate::lent::{put_words, window_at};
 use crate::report::{REPORT_BYTES, report_words};
-use device::fresh::{make_with, making_number};
+use device::fresh::make_with;
 use device::turn::{Answer, turn};
 use state::device::{DEFAULT_LIMIT, Device};
 use state::edition::Start;
+use state::rings::Rings;
 
 // An image, a report or windows of the wrong length: the call changes nothing.
 pub const WRONG_IMAGE: u32 = 201;
@@ -38,19 +39,15 @@ pub fn fresh_with_call(
     if windows.len() != WINDOWS_BYTES {
         return WRONG_WINDOWS;
     }
-    let fresh = make_with(
-        memory,
+    let four_windows = [
         window_at(windows, 0),
         window_at(windows, 2),
         window_at(windows, 4),
         window_at(windows, 6),
-        limit,
-        start,
-    );
-    let device = fresh.device;
-    let answer = fresh.answer;
-    put_device(image, device);
-    making_number(answer)
+    ];
+    let fresh = make_with(memory, four_windows, limit, start);
+    put_device(image, fresh.device);
+    fresh.number()
 }
 
 // With neither named: edition 1.
@@ -63,11 +60,7 @@ pub fn fresh_call(image: &mut [u8], windows: &[u8], memory: usize) -> u32
 fn is_served(answer: Answer) -> bool
     ensures { result ≡ is_served answer }
 {
-    match answer {
-        Answer::Refused(_) => false,
-        Answer::Idle => false,
-        Answer::Served(_) => true,
-    }
+    matches!(answer, Answer::Served(_))
 }
 
 // An image that no command changed keeps its bytes, in normal form or not.
@@ -101,7 +94,13 @@ pub fn turn_call<'a>(
     if report.len() != REPORT_BYTES {
         return WRONG_REPORT;
     }
-    let turned = turn(device_in(image), mem, r0, r1, r2, r3, pack, pipe);
+    let rings = Rings {
+        ring0: r0,
+        ring1: r1,
+        ring2: r2,
+        ring3: r3,
+    };
+    let turned = turn(device_in(image), mem, rings, pack, pipe);
     let device = turned.device;
     let answer = turned.answer;
     put_if_served(image, device, answer);

@@ -3,22 +3,17 @@ ghost use Rattle.std.specs.Prelude.{◌≡◌, ◌+◌, ◌*◌, ◌≤◌, leng
 ghost use Rattle.std.proofs.lemmas.List.Edits.{sets};
 ghost use Rattle.capi.specs.Image.{ring_size, slots_at, marker_at, commands_at, image_length, bytes_of, held_of, base_of, format_of, ring_words, rings_words, frame_of, ring_at, counts_words, counts_in, edition_number, last_words, edition_by, encode, decode};
 
-use crate::lent::{put_words, take_words, window_at, word_in};
+use crate::lent::{put_words, window_at, word_in, words_in};
 use command::frame::{Frame, stride_of};
 use state::counts::Counts;
 use state::device::{Device, Ring};
 use state::edition::Edition;
+use std::array::from_fn;
 
 // How many words a ring has.
 const RING_WORDS: usize = 7;
 
-// The words where rings 1 to 3 stand, then the slots, the marker, the limit, the commands taken, the outcomes and the edition.
-const RING_1_AT: usize = RING_WORDS;
-
-const RING_2_AT: usize = 2 * RING_WORDS;
-
-const RING_3_AT: usize = 3 * RING_WORDS;
-
+// The words where the slots, the marker, the limit, the commands taken, the outcomes and the edition stand.
 const SLOTS_AT: usize = 4 * RING_WORDS;
 
 const MARKER_AT: usize = SLOTS_AT + 64;
@@ -33,42 +28,30 @@ const EDITION_AT: usize = OUTCOMES_AT + 15;
 
 pub const IMAGE_BYTES: usize = 4 * (EDITION_AT + 1);
 
-fn held_of(frame: Frame) -> u32
+fn held_of(frame: Option<Frame>) -> u32
     ensures { result ≡ held_of frame }
 {
     match frame {
-        Frame::Unset => 0,
-        Frame::Held {
-            base: _,
-            stride: _,
-            format: _,
-        } => 1,
+        None => 0,
+        Some(_) => 1,
     }
 }
 
-fn base_of(frame: Frame) -> u32
+fn base_of(frame: Option<Frame>) -> u32
     ensures { result ≡ base_of frame }
 {
     match frame {
-        Frame::Unset => 0,
-        Frame::Held {
-            base,
-            stride: _,
-            format: _,
-        } => base,
+        None => 0,
+        Some(frame) => frame.base,
     }
 }
 
-fn format_of(frame: Frame) -> u32
+fn format_of(frame: Option<Frame>) -> u32
     ensures { result ≡ format_of frame }
 {
     match frame {
-        Frame::Unset => 0,
-        Frame::Held {
-            base: _,
-            stride: _,
-            format,
-        } => format,
+        None => 0,
+        Some(frame) => frame.format,
     }
 }
 
@@ -93,19 +76,16 @@ fn put_ring(image: &mut [u8], k: usize, ring: Ring)
     requires { 4 * (k + ring_size) ≤ length image.old }
     ensures { image.new ≡ sets image.old (4 * k) (bytes_of (ring_words ring)) }
 {
-    let words = ring_words(ring);
-    put_words(image, k, &words);
+    put_words(image, k, &ring_words(ring));
 }
 
-#[tactic(auto, unfolding(crate::specs::Image::ring_words, crate::specs::Image::rings_words))]
 fn put_rings(image: &mut [u8], d: Device)
     requires { 4 * slots_at ≤ length image.old }
     ensures { image.new ≡ sets image.old 0 (bytes_of (rings_words d)) }
 {
-    put_ring(image, 0, d.ring(0));
-    put_ring(image, RING_1_AT, d.ring(1));
-    put_ring(image, RING_2_AT, d.ring(2));
-    put_ring(image, RING_3_AT, d.ring(3));
+    for q in 0..4 {
+        put_ring(image, RING_WORDS * q as usize, d.ring(q));
+    }
 }
 
 #[tactic(auto, unfolding(crate::specs::Image::counts_words))]
@@ -131,12 +111,9 @@ fn put_last(image: &mut [u8], d: Device)
     requires { length image.old ≡ image_length }
     ensures { image.new ≡ sets image.old (4 * marker_at) (bytes_of (last_words d)) }
 {
-    let marker_and_limit = [d.marker, d.limit];
-    put_words(image, MARKER_AT, &marker_and_limit);
+    put_words(image, MARKER_AT, &[d.marker, d.limit]);
     put_counts(image, d.counts);
-    let edition = d.edition;
-    let number = [edition_number(edition)];
-    put_words(image, EDITION_AT, &number);
+    put_words(image, EDITION_AT, &[edition_number(d.edition)]);
 }
 
 #[tactic(auto, unfolding(crate::specs::Image::words_of, crate::specs::Image::encode))]
@@ -145,23 +122,22 @@ pub fn put_device(image: &mut [u8], d: Device)
     ensures { image.new ≡ encode d }
 {
     put_rings(image, d);
-    let slots = d.slots;
-    put_words(image, SLOTS_AT, &slots);
+    put_words(image, SLOTS_AT, &d.slots);
     put_last(image, d);
 }
 
 #[tactic(auto, unfolding(crate::specs::Image::frame_of))]
-fn frame_of(held: u32, base: u32, stride: u32, format: u32) -> Frame
+fn frame_of(held: u32, base: u32, stride: u32, format: u32) -> Option<Frame>
     ensures { result ≡ frame_of held base stride format }
 {
     if held == 0 {
-        return Frame::Unset;
+        return None;
     }
-    Frame::Held {
+    Some(Frame {
         base,
         stride,
         format,
-    }
+    })
 }
 
 #[tactic(auto, unfolding(crate::specs::Image::ring_at))]
@@ -187,11 +163,10 @@ fn counts_in(image: &[u8]) -> Counts
     requires { length image.now ≡ image_length }
     ensures { result ≡ counts_in image.now }
 {
-    let mut commands = [0; 4];
-    let mut outcomes = [0; 15];
-    take_words(&mut commands, image, COMMANDS_AT);
-    take_words(&mut outcomes, image, OUTCOMES_AT);
-    Counts { commands, outcomes }
+    Counts {
+        commands: words_in(image, COMMANDS_AT),
+        outcomes: words_in(image, OUTCOMES_AT),
+    }
 }
 
 // No word is a bad edition: any but 2 is edition 1.
@@ -199,10 +174,10 @@ fn counts_in(image: &[u8]) -> Counts
 fn edition_by(word: u32) -> Edition
     ensures { result ≡ edition_by word }
 {
-    if word == 2 {
-        return Edition::Two;
+    match word {
+        2 => Edition::Two,
+        _ => Edition::One,
     }
-    Edition::One
 }
 
 #[tactic(auto, unfolding(crate::specs::Image::decode))]
@@ -210,14 +185,8 @@ pub fn device_in(image: &[u8]) -> Device
     requires { length image.now ≡ image_length }
     ensures { result ≡ decode image.now }
 {
-    let rings = [
-        ring_at(image, 0),
-        ring_at(image, RING_1_AT),
-        ring_at(image, RING_2_AT),
-        ring_at(image, RING_3_AT),
-    ];
-    let mut slots = [0; 64];
-    take_words(&mut slots, image, SLOTS_AT);
+    let rings = from_fn(|q| ring_at(image, RING_WORDS * q));
+    let slots = words_in(image, SLOTS_AT);
     let marker = word_in(image, MARKER_AT);
     let limit = word_in(image, LIMIT_AT);
     let edition = edition_by(word_in(image, EDITION_AT));

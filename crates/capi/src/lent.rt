@@ -5,6 +5,7 @@ ghost use Rattle.capi.specs.Image.{bytes_of, word_in, words_in, window_at};
 
 use memory::place::{put_word, word_at};
 use state::device::Window;
+use std::array::from_fn;
 
 pub fn word_in(bytes: &[u8], k: usize) -> u32
     requires { 4 * k + 4 ≤ length bytes.now }
@@ -30,18 +31,15 @@ pub fn put_words(bytes: &mut [u8], k: usize, words: &[u32])
     requires { 4 * k + 4 * length words.now ≤ length bytes.old }
     ensures { bytes.new ≡ sets bytes.old (4 * k) (bytes_of words.now) }
 {
-    for i in 0..words.len() {
-        put_word(bytes, 4 * k + 4 * i, words[i]);
+    for (i, word) in words.iter().enumerate() {
+        put_word(bytes, 4 * k + 4 * i, *word);
     }
 }
 
-// The lent words become the bytes' words from word k on.
-#[tactic(auto, unfolding(crate::specs::Image::words_in))]
-pub fn take_words(words: &mut [u32], bytes: &[u8], k: usize)
-    requires { 4 * k + 4 * length words.old ≤ length bytes.now }
-    ensures { words.new ≡ words_in bytes.now k (length words.old) }
+// The N words from word k on.
+pub fn words_in<const N: usize>(bytes: &[u8], k: usize) -> [u32; N]
+    requires { 4 * k + 4 * N ≤ length bytes.now }
+    ensures { result ≡ words_in bytes.now k N }
 {
-    for i in 0..words.len() {
-        words[i] = word_in(bytes, k + i);
-    }
+    from_fn(|i| word_in(bytes, k + i))
 }

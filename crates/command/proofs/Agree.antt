@@ -8,6 +8,7 @@ use native.Mathlib.Omega.{arith}
 use lib.ListN.{length, get_or}
 use borrow.Author.Tests.{le-leb}
 use Rattle.memory.specs.Place.{word_at}
+use Rattle.command.specs.declared.flags.Flags.{Flags}
 use Rattle.command.specs.Flags.{wait_bit}
 use Rattle.command.specs.Header.{wait_size, target_at, command_at, is_whole}
 
@@ -21,7 +22,7 @@ module _ (r₁ r₂ : List ℕ) where
   word-agree a same =
       cc (same a (omega arith) (omega arith), same (a + 1) (omega arith) (omega arith), same (a + 2) (omega arith) (omega arith), same (a + 3) (omega arith) (omega arith))
 
-  target_agree : (cursor flags : ℕ) → Agree r₁ r₂ cursor (cursor + (16 + wait_size flags)) → target_at r₁ cursor flags ≡ target_at r₂ cursor flags
+  target_agree : (cursor : ℕ) (flags : Flags) → Agree r₁ r₂ cursor (cursor + (16 + wait_size flags)) → target_at r₁ cursor flags ≡ target_at r₂ cursor flags
   unfolding target_at wait_size
   target_agree cursor flags same = go (wait_bit flags) same
     where
@@ -30,7 +31,7 @@ module _ (r₁ r₂ : List ℕ) where
       go false same = refl
 
   module _ (cursor : ℕ) (same : Agree r₁ r₂ cursor (cursor + (command_at r₁ cursor).size)) where
-    head : Agree r₁ r₂ cursor (cursor + (16 + wait_size (get_or r₁ (cursor + 1) 0)))
+    head : Agree r₁ r₂ cursor (cursor + (16 + wait_size (command_at r₁ cursor).flags))
     unfolding command_at
     head i ge lt = same i ge (omega arith)
 
@@ -44,7 +45,8 @@ module _ (r₁ r₂ : List ℕ) where
     pub command-agree : command_at r₁ cursor ≡ command_at r₂ cursor
     unfolding command_at
     command-agree =
-        cc (
+        rw (
+          target_agree cursor (command_at r₁ cursor).flags head,
           byte cursor (omega arith) (omega arith),
           byte (cursor + 1) (omega arith) (omega arith),
           byte (cursor + 2) (omega arith) (omega arith),
@@ -52,7 +54,6 @@ module _ (r₁ r₂ : List ℕ) where
           word (cursor + 4) (omega arith) (omega arith),
           word (cursor + 8) (omega arith) (omega arith),
           word (cursor + 12) (omega arith) (omega arith),
-          target_agree cursor (get_or r₁ (cursor + 1) 0) head,
         )
 
     -- and it is whole in both, if both are long enough

@@ -1,4 +1,4 @@
-pub mod TableRows
+pub mod Opcodes
 pub mod Sizes
 pub mod Agree
 pub mod Outcomes

@@ -7,19 +7,20 @@ use Prim.Native.Nat.{ℕ, ◌+◌, ◌*◌, ◌≤◌}
 use native.Mathlib.Nat.{le_refl}
 use native.Mathlib.Omega.{arith}
 use lib.Dec.{lit≤}
-use lib.ListN.{length, get_or}
+use lib.ListN.{length}
 use borrow.Author.Tests.{leb-true}
+use Rattle.command.specs.declared.flags.Flags.{Flags}
 use Rattle.command.specs.Flags.{wait_bit, payload_bit}
 use Rattle.command.specs.Header.{wait_size, payload_size, command_at, is_whole}
 use Rattle.words.proofs.Choices.{cond_le}
 
-pub wait_size-most : (flags : ℕ) → wait_size flags ≤ 4
+pub wait_size_most : (flags : Flags) → wait_size flags ≤ 4
 unfolding wait_size
-wait_size-most flags = cond_le (wait_bit flags) (lit≤ tt) (lit≤ tt)
+wait_size_most flags = cond_le (wait_bit flags) (lit≤ tt) (lit≤ tt)
 
-pub payload_size-most : (flags len : ℕ) → payload_size flags len ≤ 4 * len
+pub payload_size_most : (flags : Flags) (len : ℕ) → payload_size flags len ≤ 4 * len
 unfolding payload_size
-payload_size-most flags len = cond_le (payload_bit flags) (le_refl _) (omega arith)
+payload_size_most flags len = cond_le (payload_bit flags) (le_refl _) (omega arith)
 
 module _ (ring : List ℕ) (cursor : ℕ) where
   pub size_least : 16 ≤ (command_at ring cursor).size
@@ -29,7 +30,8 @@ module _ (ring : List ℕ) (cursor : ℕ) where
   pub size_by_len : (command_at ring cursor).size ≤ 20 + 4 * (command_at ring cursor).len
   unfolding command_at
   size_by_len =
-      omega (arith, wait_size-most (get_or ring (cursor + 1) 0), payload_size-most (get_or ring (cursor + 1) 0) (get_or ring (cursor + 3) 0))
+      let c = command_at ring cursor in
+      omega (arith, wait_size_most c.flags, payload_size_most c.flags c.len)
 
   -- a whole command's payload lies in the ring
   pub payload-inside : is_whole ring cursor ≡ true → payload_bit (command_at ring cursor).flags ≡ true

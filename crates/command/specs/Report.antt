@@ -1,9 +1,9 @@
 -- What a command and its outcome make a turn report.
-use Rattle.std.specs.Prelude.{ℕ, Bool, ◌&&◌, ◌||◌, cond, eqb, leb}
-use Rattle.command.specs.declared.outcome.Outcome.{Outcome}
+use Rattle.std.specs.Prelude.{ℕ, Bool, ◌&&◌, ◌||◌, cond, leb}
 use Rattle.command.specs.declared.header.Command.{Command}
-use Rattle.command.specs.Opcode.{read_mem}
-use Rattle.command.specs.Outcome.{outcome_number, is_done}
+use Rattle.command.specs.declared.opcode.Opcode.TheVariants.{ReadMem}
+use Rattle.command.specs.Opcode.{is_opcode}
+use Rattle.command.specs.Outcome.{Outcome, outcome_number, is_done}
 use Rattle.command.specs.Flags.{irq_bit, emit_bit}
 
 -- outcome 0, or one from `low` on
@@ -20,4 +20,4 @@ interrupts c o = irq_bit c.flags && done_or_from 5 o
 
 -- words read is len for a READ_MEM with outcome 0, else 0
 unfoldable pub words_read : Command → Outcome → ℕ
-words_read c o = cond (eqb c.opcode read_mem && is_done o) c.len 0
+words_read c o = cond (is_opcode c.opcode ReadMem && is_done o) c.len 0

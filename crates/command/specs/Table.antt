@@ -1,25 +1,21 @@
 -- The table of commands.
-use Rattle.std.specs.Prelude.{ℕ, ◌+◌, Bool, true, false, cond, eqb}
+use Rattle.std.specs.Prelude.{Bool, true, false, Option, Some, None}
+use Rattle.command.specs.declared.opcode.Opcode.{Opcode}
+use Rattle.command.specs.declared.opcode.Opcode.TheVariants.{WriteMem, ReadMem, FillRect, Blit, Dispatch1d, Barrier, CopyBuffer, SetFb}
 use Rattle.command.specs.declared.table.Row.{Row}
-use Rattle.command.specs.Opcode.{write_mem, read_mem, fill_rect, blit, dispatch_1d, barrier, copy_buffer, set_fb}
 
--- a row: the opcode is known, its payload bit is set, arg0 is an address, arg1 is an address
-abbrev pub row : Bool → Bool → Bool → Bool → Row
-row known payload address0 address1 = record { known = known; payload = payload; address0 = address0; address1 = address1 }
+-- a row: the payload bit is set, arg0 is an address, arg1 is an address
+abbrev pub row : Bool → Bool → Bool → Row
+row payload address0 address1 = record { payload = payload; address0 = address0; address1 = address1 }
 
--- the table: SET_FB's base and stride are judged with the frame and are no addresses here
-unfoldable pub row_of : ℕ → Row
-row_of opcode =
-    cond (eqb opcode write_mem) (row true true true false)
-    (cond (eqb opcode read_mem) (row true false true false)
-    (cond (eqb opcode fill_rect) (row true false true false)
-    (cond (eqb opcode blit) (row true false true true)
-    (cond (eqb opcode dispatch_1d) (row true false false false)
-    (cond (eqb opcode barrier) (row true false false false)
-    (cond (eqb opcode copy_buffer) (row true false true true)
-    (cond (eqb opcode set_fb) (row true false false false)
-    (row false false false false))))))))
-
--- a row as one number, a bit for each part
-unfoldable pub entry_of : Row → ℕ
-entry_of r = cond r.known 1 0 + cond r.payload 2 0 + cond r.address0 4 0 + cond r.address1 8 0
+-- the table: SET_FB's base and stride are judged with the frame and are no addresses here; nothing is asked of no opcode
+unfoldable pub row_of : Option Opcode → Row
+row_of (Some WriteMem) = row true true false
+row_of (Some ReadMem) = row false true false
+row_of (Some FillRect) = row false true false
+row_of (Some Blit) = row false true true
+row_of (Some Dispatch1d) = row false false false
+row_of (Some Barrier) = row false false false
+row_of (Some CopyBuffer) = row false true true
+row_of (Some SetFb) = row false false false
+row_of None = row false false false

@@ -2,18 +2,15 @@
 ghost use Rattle.std.specs.Prelude.{◌≡◌};
 ghost use Rattle.command.specs.Faults.{unknown_opcode, wrong_payload_bit, no_such_slot, header_fault};
 
-use crate::flags;
 use crate::header::Command;
-use crate::outcome::Outcome;
+use crate::outcome::{Fault, Outcome};
 use crate::table::row_of;
-use words::choice::{both, differing, one_of};
 
 #[tactic(auto, unfolding(crate::specs::Faults::unknown_opcode))]
 fn is_unknown(command: Command) -> bool
     ensures { result ≡ unknown_opcode command }
 {
-    let row = row_of(command.opcode);
-    !row.known
+    command.opcode.is_none()
 }
 
 #[tactic(auto, unfolding(crate::specs::Faults::wrong_payload_bit))]
@@ -21,15 +18,15 @@ fn has_wrong_payload_bit(command: Command) -> bool
     ensures { result ≡ wrong_payload_bit command }
 {
     let row = row_of(command.opcode);
-    differing(flags::payload(command.flags), row.payload)
+    command.flags.payload() ^ row.payload
 }
 
 #[tactic(auto, unfolding(crate::specs::Faults::no_such_slot))]
 fn names_no_slot(command: Command) -> bool
     ensures { result ≡ no_such_slot command }
 {
-    let uses_slot = one_of(flags::emit(command.flags), flags::wait(command.flags));
-    both(uses_slot, 63 < command.rdst)
+    let uses_slot = command.flags.emit() | command.flags.wait();
+    uses_slot & (63 < command.rdst)
 }
 
 // The smallest that applies.
@@ -38,16 +35,16 @@ pub fn header_fault(command: Command) -> Outcome
     ensures { result ≡ header_fault command }
 {
     if is_unknown(command) {
-        return Outcome::UnknownOpcode;
+        return Err(Fault::UnknownOpcode);
     }
-    if flags::reserved(command.flags) {
-        return Outcome::ReservedFlag;
+    if command.flags.reserved() {
+        return Err(Fault::ReservedFlag);
     }
     if has_wrong_payload_bit(command) {
-        return Outcome::WrongPayloadBit;
+        return Err(Fault::WrongPayloadBit);
     }
     if names_no_slot(command) {
-        return Outcome::NoSuchSlot;
+        return Err(Fault::NoSuchSlot);
     }
-    Outcome::Done
+    Ok(())
 }

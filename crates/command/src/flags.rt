@@ -2,32 +2,37 @@
 ghost use Rattle.std.specs.Prelude.{◌≡◌};
 ghost use Rattle.command.specs.Flags.{irq_bit, emit_bit, wait_bit, payload_bit, reserved_bit};
 
-pub fn irq(flags: u8) -> bool
-    ensures { result ≡ irq_bit flags }
-{
-    flags % 2 == 1
-}
+#[derive(Clone, Copy, Debug, PartialEq, Eq)]
+pub struct Flags(pub u8);
 
-pub fn emit(flags: u8) -> bool
-    ensures { result ≡ emit_bit flags }
-{
-    flags / 2 % 2 == 1
-}
+impl Flags {
+    pub fn irq(self) -> bool
+        ensures { result ≡ irq_bit self }
+    {
+        self.0 % 2 == 1
+    }
 
-pub fn wait(flags: u8) -> bool
-    ensures { result ≡ wait_bit flags }
-{
-    flags / 4 % 2 == 1
-}
+    pub fn emit(self) -> bool
+        ensures { result ≡ emit_bit self }
+    {
+        self.0 / 2 % 2 == 1
+    }
 
-pub fn payload(flags: u8) -> bool
-    ensures { result ≡ payload_bit flags }
-{
-    flags / 8 % 2 == 1
-}
+    pub fn wait(self) -> bool
+        ensures { result ≡ wait_bit self }
+    {
+        self.0 / 4 % 2 == 1
+    }
 
-pub fn reserved(flags: u8) -> bool
-    ensures { result ≡ reserved_bit flags }
-{
-    flags / 16 != 0
+    pub fn payload(self) -> bool
+        ensures { result ≡ payload_bit self }
+    {
+        self.0 / 8 % 2 == 1
+    }
+
+    pub fn reserved(self) -> bool
+        ensures { result ≡ reserved_bit self }
+    {
+        self.0 / 16 != 0
+    }
 }

@@ -2,13 +2,13 @@
 ghost use Rattle.std.specs.Prelude.{◌≡◌};
 ghost use Rattle.command.specs.Frame.{not_a_multiple, frame_misaligned, frame_outside, frame_unfit, frame_fault, held_fault, stride_of};
 
-use crate::outcome::Outcome;
-use words::choice::one_of;
+use crate::outcome::{Fault, Outcome};
 
-#[derive(Clone, Copy)]
-pub enum Frame {
-    Unset,
-    Held { base: u32, stride: u32, format: u32 },
+#[derive(Clone, Copy, Debug, PartialEq, Eq)]
+pub struct Frame {
+    pub base: u32,
+    pub stride: u32,
+    pub format: u32,
 }
 
 pub fn not_a_multiple(x: u32) -> bool
@@ -17,67 +17,58 @@ pub fn not_a_multiple(x: u32) -> bool
     x % 4 != 0
 }
 
-#[tactic(auto, unfolding(crate::specs::Frame::frame_misaligned))]
-pub fn frame_misaligned(base: u32, stride: u32) -> bool
-    ensures { result ≡ frame_misaligned base stride }
-{
-    one_of(not_a_multiple(base), not_a_multiple(stride))
-}
-
-pub fn frame_outside(base: u32, length: usize) -> bool
-    ensures { result ≡ frame_outside base length }
-{
-    length <= base as usize
-}
-
-#[tactic(auto, unfolding(crate::specs::Frame::frame_unfit))]
-pub fn frame_unfit(stride: u32, format: u32) -> bool
-    ensures { result ≡ frame_unfit stride format }
-{
-    one_of(one_of(stride < 4, 65536 < stride), format != 0)
-}
-
-#[tactic(auto, unfolding(crate::specs::Frame::frame_fault))]
-pub fn frame_fault(base: u32, stride: u32, format: u32, length: usize) -> Outcome
-    ensures { result ≡ frame_fault base stride format length }
-{
-    if frame_misaligned(base, stride) {
-        return Outcome::Misaligned;
+impl Frame {
+    #[tactic(auto, unfolding(crate::specs::Frame::frame_misaligned))]
+    pub fn is_misaligned(self) -> bool
+        ensures { result ≡ frame_misaligned self }
+    {
+        not_a_multiple(self.base) | not_a_multiple(self.stride)
     }
-    if frame_outside(base, length) {
-        return Outcome::OutsideTheWindow;
+
+    pub fn is_outside(self, length: usize) -> bool
+        ensures { result ≡ frame_outside self length }
+    {
+        length <= self.base as usize
     }
-    if frame_unfit(stride, format) {
-        return Outcome::BadFrame;
+
+    #[tactic(auto, unfolding(crate::specs::Frame::frame_unfit))]
+    pub fn is_unfit(self) -> bool
+        ensures { result ≡ frame_unfit self }
+    {
+        (self.stride < 4) | (65536 < self.stride) | (self.format != 0)
     }
-    Outcome::Done
+
+    #[tactic(auto, unfolding(crate::specs::Frame::frame_fault))]
+    pub fn fault(self, length: usize) -> Outcome
+        ensures { result ≡ frame_fault self length }
+    {
+        if self.is_misaligned() {
+            return Err(Fault::Misaligned);
+        }
+        if self.is_outside(length) {
+            return Err(Fault::OutsideTheWindow);
+        }
+        if self.is_unfit() {
+            return Err(Fault::BadFrame);
+        }
+        Ok(())
+    }
 }
 
-// The same test of a frame that a ring has; an unset frame passes it.
+// The same test of the frame that a ring has; no frame passes it.
 #[tactic(auto, unfolding(crate::specs::Frame::held_fault))]
-pub fn held_fault(frame: Frame, length: usize) -> Outcome
+pub fn held_fault(frame: Option<Frame>, length: usize) -> Outcome
     ensures { result ≡ held_fault frame length }
 {
     match frame {
-        Frame::Unset => Outcome::Done,
-        Frame::Held {
-            base,
-            stride,
-            format,
-        } => frame_fault(base, stride, format, length),
+        None => Ok(()),
+        Some(frame) => frame.fault(length),
     }
 }
 
 // 0 of no frame.
-pub fn stride_of(frame: Frame) -> u32
+pub fn stride_of(frame: Option<Frame>) -> u32
     ensures { result ≡ stride_of frame }
 {
-    match frame {
-        Frame::Unset => 0,
-        Frame::Held {
-            base: _,
-            stride,
-            format: _,
-        } => stride,
-    }
+    frame.map_or(0, |frame| frame.stride)
 }

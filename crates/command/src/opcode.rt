@@ -1,16 +1,39 @@
 // The opcodes.
-pub const WRITE_MEM: u8 = 0x01;
+ghost use Rattle.std.specs.Prelude.{◌≡◌, ok_or};
+ghost use Rattle.command.specs.declared.outcome.Fault.TheVariants.{UnknownOpcode};
+ghost use Rattle.command.specs.Opcode.{opcode_of};
 
-pub const READ_MEM: u8 = 0x02;
+use crate::outcome::Fault;
 
-pub const FILL_RECT: u8 = 0x10;
+#[derive(Clone, Copy, Debug, PartialEq, Eq)]
+pub enum Opcode {
+    WriteMem,
+    ReadMem,
+    FillRect,
+    Blit,
+    Dispatch1d,
+    Barrier,
+    CopyBuffer,
+    SetFb,
+}
 
-pub const BLIT: u8 = 0x11;
+impl TryFrom<u8> for Opcode {
+    type Error = Fault;
 
-pub const DISPATCH_1D: u8 = 0x20;
+    ghost try_from_gives = { λ byte r. r ≡ ok_or (opcode_of byte) UnknownOpcode };
 
-pub const BARRIER: u8 = 0x22;
-
-pub const COPY_BUFFER: u8 = 0x23;
-
-pub const SET_FB: u8 = 0x30;
+    #[tactic(auto, unfolding(crate::specs::Opcode::opcode_of))]
+    fn try_from(byte: u8) -> Result<Self, Fault> {
+        match byte {
+            0x01 => Ok(Opcode::WriteMem),
+            0x02 => Ok(Opcode::ReadMem),
+            0x10 => Ok(Opcode::FillRect),
+            0x11 => Ok(Opcode::Blit),
+            0x20 => Ok(Opcode::Dispatch1d),
+            0x22 => Ok(Opcode::Barrier),
+            0x23 => Ok(Opcode::CopyBuffer),
+            0x30 => Ok(Opcode::SetFb),
+            _ => Err(Fault::UnknownOpcode),
+        }
+    }
+}

@@ -1,11 +1,9 @@
 // What became of a command.
 ghost use Rattle.std.specs.Prelude.{◌≡◌};
-ghost use Rattle.command.specs.Outcome.{outcome_number, is_done};
+ghost use Rattle.command.specs.Outcome.{fault_number, outcome_number};
 
-#[derive(Clone, Copy)]
-pub enum Outcome {
-    // 0: done.
-    Done,
+#[derive(Clone, Copy, Debug, PartialEq, Eq)]
+pub enum Fault {
     // 1: opcode not in the table.
     UnknownOpcode,
     // 2: a reserved flag is set.
@@ -36,30 +34,37 @@ pub enum Outcome {
     OutOfSteps,
 }
 
+// 0: done.
+pub type Outcome = Result<(), Fault>;
+
+impl From<Fault> for u32 {
+    ghost from_gives = { λ fault n. n ≡ fault_number fault };
+
+    fn from(fault: Fault) -> u32 {
+        match fault {
+            Fault::UnknownOpcode => 1,
+            Fault::ReservedFlag => 2,
+            Fault::WrongPayloadBit => 3,
+            Fault::NoSuchSlot => 4,
+            Fault::SlotFull => 5,
+            Fault::Misaligned => 6,
+            Fault::NoFrame => 7,
+            Fault::OutsideTheWindow => 8,
+            Fault::BadFrame => 9,
+            Fault::BadDispatch => 10,
+            Fault::NotListed => 11,
+            Fault::OffTheKernel => 12,
+            Fault::AccessOutside => 13,
+            Fault::OutOfSteps => 14,
+        }
+    }
+}
+
 pub fn number(outcome: Outcome) -> u32
     ensures { result ≡ outcome_number outcome }
 {
     match outcome {
-        Outcome::Done => 0,
-        Outcome::UnknownOpcode => 1,
-        Outcome::ReservedFlag => 2,
-        Outcome::WrongPayloadBit => 3,
-        Outcome::NoSuchSlot => 4,
-        Outcome::SlotFull => 5,
-        Outcome::Misaligned => 6,
-        Outcome::NoFrame => 7,
-        Outcome::OutsideTheWindow => 8,
-        Outcome::BadFrame => 9,
-        Outcome::BadDispatch => 10,
-        Outcome::NotListed => 11,
-        Outcome::OffTheKernel => 12,
-        Outcome::AccessOutside => 13,
-        Outcome::OutOfSteps => 14,
+        Ok(()) => 0,
+        Err(fault) => fault.into(),
     }
-}
-
-pub fn is_done(outcome: Outcome) -> bool
-    ensures { result ≡ is_done outcome }
-{
-    number(outcome) == 0
 }

@@ -3,17 +3,15 @@ ghost use Rattle.std.specs.Prelude.{◌≡◌};
 ghost use Rattle.command.specs.Report.{emits, interrupts, words_read};
 
 use crate::header::Command;
-use crate::outcome::{Outcome, is_done, number};
-use crate::{flags, opcode};
-use words::choice::{both, one_of};
+use crate::opcode::Opcode;
+use crate::outcome::{Outcome, number};
 
 // Whether it adds 1 to its slot.
 #[tactic(auto, unfolding(crate::specs::Report::emits))]
 pub fn emits_fence(command: Command, outcome: Outcome) -> bool
     ensures { result ≡ emits command outcome }
 {
-    let n = number(outcome);
-    both(flags::emit(command.flags), one_of(n == 0, 6 <= n))
+    command.flags.emit() & (outcome.is_ok() | (6 <= number(outcome)))
 }
 
 // Whether it raises an IRQ.
@@ -21,15 +19,14 @@ pub fn emits_fence(command: Command, outcome: Outcome) -> bool
 pub fn raises_irq(command: Command, outcome: Outcome) -> bool
     ensures { result ≡ interrupts command outcome }
 {
-    let n = number(outcome);
-    both(flags::irq(command.flags), one_of(n == 0, 5 <= n))
+    command.flags.irq() & (outcome.is_ok() | (5 <= number(outcome)))
 }
 
 #[tactic(auto, unfolding(crate::specs::Report::words_read))]
 pub fn words_read(command: Command, outcome: Outcome) -> u32
     ensures { result ≡ words_read command outcome }
 {
-    if both(command.opcode == opcode::READ_MEM, is_done(outcome)) {
+    if (command.opcode == Some(Opcode::ReadMem)) & outcome.is_ok() {
         command.len as u32
     } else {
         0

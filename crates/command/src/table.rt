@@ -1,76 +1,43 @@
 // The table of commands, by opcode.
 ghost use Rattle.std.specs.Prelude.{◌≡◌};
-ghost use Rattle.command.specs.Table.{entry_of, row_of};
+ghost use Rattle.command.specs.Table.{row, row_of};
 
-// The bits of an entry: the opcode is in the table, its payload bit is set, arg0 is an address, arg1 is an address.
-const KNOWN: u8 = 1;
+use crate::opcode::Opcode;
 
-const PAYLOAD: u8 = 2;
-
-const ADDRESS0: u8 = 4;
-
-const ADDRESS1: u8 = 8;
-
-const WRITE_MEM: u8 = KNOWN + PAYLOAD + ADDRESS0;
-
-const READ_MEM: u8 = KNOWN + ADDRESS0;
-
-const FILL_RECT: u8 = KNOWN + ADDRESS0;
-
-const BLIT: u8 = KNOWN + ADDRESS0 + ADDRESS1;
-
-const DISPATCH_1D: u8 = KNOWN;
-
-const BARRIER: u8 = KNOWN;
-
-const COPY_BUFFER: u8 = KNOWN + ADDRESS0 + ADDRESS1;
-
-const SET_FB: u8 = KNOWN;
-
-// The entry of each opcode, at its number; a line for each high digit.
-#[rattlefmt::skip]
-const OPCODES: [u8; 256] = [
-    0, WRITE_MEM, READ_MEM, 0, 0, 0, 0, 0, 0, 0, 0, 0, 0, 0, 0, 0,
-    FILL_RECT, BLIT, 0, 0, 0, 0, 0, 0, 0, 0, 0, 0, 0, 0, 0, 0,
-    DISPATCH_1D, 0, BARRIER, COPY_BUFFER, 0, 0, 0, 0, 0, 0, 0, 0, 0, 0, 0, 0,
-    SET_FB, 0, 0, 0, 0, 0, 0, 0, 0, 0, 0, 0, 0, 0, 0, 0,
-    0, 0, 0, 0, 0, 0, 0, 0, 0, 0, 0, 0, 0, 0, 0, 0,
-    0, 0, 0, 0, 0, 0, 0, 0, 0, 0, 0, 0, 0, 0, 0, 0,
-    0, 0, 0, 0, 0, 0, 0, 0, 0, 0, 0, 0, 0, 0, 0, 0,
-    0, 0, 0, 0, 0, 0, 0, 0, 0, 0, 0, 0, 0, 0, 0, 0,
-    0, 0, 0, 0, 0, 0, 0, 0, 0, 0, 0, 0, 0, 0, 0, 0,
-    0, 0, 0, 0, 0, 0, 0, 0, 0, 0, 0, 0, 0, 0, 0, 0,
-    0, 0, 0, 0, 0, 0, 0, 0, 0, 0, 0, 0, 0, 0, 0, 0,
-    0, 0, 0, 0, 0, 0, 0, 0, 0, 0, 0, 0, 0, 0, 0, 0,
-    0, 0, 0, 0, 0, 0, 0, 0, 0, 0, 0, 0, 0, 0, 0, 0,
-    0, 0, 0, 0, 0, 0, 0, 0, 0, 0, 0, 0, 0, 0, 0, 0,
-    0, 0, 0, 0, 0, 0, 0, 0, 0, 0, 0, 0, 0, 0, 0, 0,
-    0, 0, 0, 0, 0, 0, 0, 0, 0, 0, 0, 0, 0, 0, 0, 0,
-];
-
-#[derive(Clone, Copy)]
+#[derive(Clone, Copy, Debug, PartialEq, Eq)]
 pub struct Row {
-    pub known: bool,
+    // Whether the payload bit is set.
     pub payload: bool,
+    // Whether arg0 and arg1 are addresses.
     pub address0: bool,
     pub address1: bool,
 }
 
-#[tactic(auto, unfolding(crate::specs::Table::entry_of, crate::specs::Table::row_of, words::specs::Choice::all_below))]
-fn entry(opcode: u8) -> u8
-    ensures { result ≡ entry_of (row_of opcode) }
-{
-    OPCODES[opcode as usize]
+impl Row {
+    fn of(payload: bool, address0: bool, address1: bool) -> Self
+        ensures { result ≡ row payload address0 address1 }
+    {
+        Row {
+            payload,
+            address0,
+            address1,
+        }
+    }
 }
 
-pub fn row_of(opcode: u8) -> Row
+#[tactic(auto, unfolding(crate::specs::Table::row_of))]
+pub fn row_of(opcode: Option<Opcode>) -> Row
     ensures { result ≡ row_of opcode }
 {
-    let bits = entry(opcode);
-    Row {
-        known: bits / KNOWN % 2 == 1,
-        payload: bits / PAYLOAD % 2 == 1,
-        address0: bits / ADDRESS0 % 2 == 1,
-        address1: bits / ADDRESS1 % 2 == 1,
+    match opcode {
+        Some(Opcode::WriteMem) => Row::of(true, true, false),
+        Some(Opcode::ReadMem) => Row::of(false, true, false),
+        Some(Opcode::FillRect) => Row::of(false, true, false),
+        Some(Opcode::Blit) => Row::of(false, true, true),
+        Some(Opcode::Dispatch1d) => Row::of(false, false, false),
+        Some(Opcode::Barrier) => Row::of(false, false, false),
+        Some(Opcode::CopyBuffer) => Row::of(false, true, true),
+        Some(Opcode::SetFb) => Row::of(false, false, false),
+        None => Row::of(false, false, false),
     }
 }

@@ -20,9 +20,7 @@ const BODY_ROOM: usize = 262144;
 
 fn compare_all<R: Read>(calls: &mut R, body: &mut [u8]) -> Tally {
     let mut tally = Tally::none();
-    let mut unread = MOST_CALLS;
-    while 0 < unread {
-        unread -= 1;
+    for _ in 0..MOST_CALLS {
         let n = record::next(calls, body);
         if n == 0 {
             break;

@@ -1,23 +1,9 @@
 // The records of a file: each is a word N and then N bytes, its body.
-ghost use Rattle.compare.specs.Record.{IsPrefixLen};
+ghost use Rattle.reading.specs.Front.{IsPrefixLen};
 
 use memory::peek::peek_word;
+use reading::read_full;
 use std::io::Read;
-
-// Reads until `buf` is full, the stream ends or a read fails, and gives how many bytes it put at the front of `buf`.
-fn read_full<R: Read>(stream: &mut R, buf: &mut [u8]) -> usize
-    ensures { IsPrefixLen result buf.new }
-{
-    let mut done = 0;
-    while done < buf.len() {
-        let n = stream.read(&mut buf[done..]).unwrap_or(0);
-        if n == 0 {
-            break;
-        }
-        done += n;
-    }
-    done
-}
 
 // The bytes that a count stands for, of which so many were read; 0 if it is cut short.
 fn body_size(count: &[u8], got: usize) -> usize {

@@ -5,7 +5,6 @@ ghost use Rattle.compare.specs.Tally.{tally_of, with_turn, judged, counted, enou
 use recorded::call::Seen;
 use std::io;
 use words::arithmetic::add;
-use words::choice::both;
 
 #[derive(Drop)]
 pub struct Tally {
@@ -44,12 +43,10 @@ impl Tally {
     fn with_turn(mut self, status: u32) -> Self
         ensures { result ≡ with_turn self status }
     {
-        if status == 0 {
-            self.served = add(self.served, 1);
-        } else if status == 1 {
-            self.idle = add(self.idle, 1);
-        } else {
-            self.refused = add(self.refused, 1);
+        match status {
+            0 => self.served = add(self.served, 1),
+            1 => self.idle = add(self.idle, 1),
+            _ => self.refused = add(self.refused, 1),
         }
         self
     }
@@ -75,7 +72,7 @@ impl Tally {
     {
         let served = self.served as u64;
         let turns = served + self.idle as u64 + self.refused as u64;
-        both(1 <= served, turns <= 10 * served)
+        (1 <= served) & (turns <= 10 * served)
     }
 
     pub fn print(self, rt: &impl Print) -> io::Result<()> {

@@ -101,5 +101,5 @@ idle_in_time d shaped R (call ∷ calls) (more lends each) enough =
 
 pub fresh-idle_in_time : FreshIdleInTime
 unfolding FreshIdleInTime IdleInTime fresh_device ring_of untaken_of untaken_in sum_of
-fresh-idle_in_time w0 w1 w2 w3 limit chosen R calls each enough =
-    idle_in_time (fresh_device w0 w1 w2 w3 limit chosen) (fresh-shaped w0 w1 w2 w3 limit chosen) R calls each (omega (arith, enough))
+fresh-idle_in_time windows limit chosen R calls each enough =
+    idle_in_time (fresh_device windows limit chosen) (fresh-shaped windows limit chosen) R calls each (omega (arith, enough))

@@ -2,10 +2,9 @@
 -- Assumes nothing.
 use mathlib.Core.Path.{◌≡◌, ap, subst}
 use Prim.Native.Nat.{ℕ}
+use Rattle.std.specs.Prelude.{Ok, Some}
 use Rattle.command.specs.Outcome.{outcome_number}
 use Rattle.state.specs.declared.device.Device.{Device}
-use Rattle.state.specs.declared.refusal.Verdict.TheVariants.{Sound}
-use Rattle.state.specs.declared.ready.Picked.TheVariants.{Ring as RingOf}
 use Rattle.state.specs.Device.{Shaped, CountsFit}
 use Rattle.device.specs.declared.turn.Report.{Report}
 use Rattle.device.specs.declared.turn.Answer.TheVariants.{Served}
@@ -21,7 +20,7 @@ use Rattle.demands.proofs.Devices.{after-counts-one}
 
 -- a served turn counts its command
 module _ (d : Device) (shaped : Shaped d) (call : Call) where
-  pub served-one : (q : ℕ) → verdict_on d call ≡ Sound → pick_in d call ≡ RingOf q
+  pub served-one : (q : ℕ) → verdict_on d call ≡ Ok tt → pick_in d call ≡ Some q
       → CountsOne d q (outcome_number (work_in d call q).performed.outcome) (served_in d call q).turned.device
   unfolding served_of finished
   served-one q sound pick = after-counts-one d q (head_in d call q) (work_in d call q).performed shaped (picked_servable d call q sound pick).number

@@ -6,9 +6,8 @@ use mathlib.Core.List.{[], ◌∷◌}
 use Prim.Native.Nat.{ℕ, ◌+◌, ◌%◌, ◌^◌, ◌<◌}
 use native.Mathlib.Omega.{arith}
 use lib.Dec.{eqb}
+use Rattle.std.specs.Prelude.{Ok, Some}
 use Rattle.state.specs.declared.device.Device.{Device}
-use Rattle.state.specs.declared.refusal.Verdict.TheVariants.{Sound}
-use Rattle.state.specs.declared.ready.Picked.TheVariants.{Ring as RingOf}
 use Rattle.state.specs.Device.{Shaped, CountsFit, fresh_device, commands_of, outcomes_of}
 use Rattle.state.specs.PlusOne.{plus_one}
 use Rattle.device.specs.Answer.{Values, values_of}
@@ -29,7 +28,7 @@ moves false x below = omega arith
 
 -- a count of a served turn's values goes up by what the turn served
 module _ (value : Values → ℕ) (count : Device → ℕ → ℕ) (d : Device) (call : Call)
-    (one : (q : ℕ) → verdict_on d call ≡ Sound → pick_in d call ≡ RingOf q
+    (one : (q : ℕ) → verdict_on d call ≡ Ok tt → pick_in d call ≡ Some q
     → OneUp (value (values_of (served_in d call q).turned.answer)) (count d) (count (served_in d call q).turned.device)) where
   served_moves : (q n : ℕ) → count d n < 2 ^ 32
       → cond (eqb n (value (values_of (served_in d call q).turned.answer))) (plus_one (count d n)) (count d n)
@@ -68,8 +67,8 @@ calls_count d shaped fit (call ∷ calls) =
 
 pub fresh-counts : FreshCounts
 unfolding FreshCounts
-fresh-counts w0 w1 w2 w3 limit chosen R calls each =
-    let took = (run_took chosen R calls (fresh_device w0 w1 w2 w3 limit chosen) (λ q. 0) (fresh_took chosen R w0 w1 w2 w3 limit) each).1 in
+fresh-counts windows limit chosen R calls each =
+    let took = (run_took chosen R calls (fresh_device windows limit chosen) (λ q. 0) (fresh_took chosen R windows limit) each).1 in
     record {
       places = λ q four. rw (took.counts q four) (sym (took.cursors q four));
       whole = λ q four n below. took.whole q four n (rw (took.counts q four) at below);

@@ -15,8 +15,8 @@ use Rattle.instruction.specs.Decode.{decoded}
 use Rattle.instruction.specs.Effect.{loaded_effect, loaded_quad_effect, effect_of}
 use Rattle.pack.specs.declared.kernels.Kernel.{Kernel}
 use Rattle.kernel.specs.declared.thread.Thread.{Thread}
-use Rattle.kernel.specs.declared.dispatch.Ran.{Ran}
-use Rattle.kernel.specs.declared.dispatch.Ran.TheVariants.{Done, Stopped as StoppedFor}
+use Rattle.std.specs.Prelude.{Result, Ok, Err}
+use Rattle.kernel.specs.declared.dispatch.ThreadStop.{ThreadStop}
 use Rattle.kernel.specs.Thread.{started}
 use Rattle.kernel.specs.Step.{stops, branched, after_store, applied, executed}
 use Rattle.kernel.specs.Run.{running, steps_of}
@@ -167,11 +167,11 @@ dispatch-stopped d call number high =
     c : Command
     c = head_in d call (ring_served d call)
 
-    go : (r : Ran) → (threads_in d call (ring_served d call)).ran ≡ r
+    go : (r : Result Unit ThreadStop) → (threads_in d call (ring_served d call)).ran ≡ r
         → (values_in d call).outcome ≡ outcome_number (ran_outcome (threads_in d call (ring_served d call)).ran)
         → (values_in d call).site ≡ site_of (threads_in d call (ring_served d call)).ran → StoppedIn d call (ring_served d call)
-    go Done now outcome site = absurd (omega (arith, high, rw now at outcome))
-    go (StoppedFor stop) now outcome site =
+    go (Ok u) now outcome site = absurd (omega (arith, high, rw now at outcome))
+    go (Err stop) now outcome site =
         rw (rw now at outcome, rw now at site)
         (stopped-thread d.limit call.pack (kernel_in d call (ring_served d call)) c.arg0 c.arg1 (window_in d call (ring_served d call)) stop now (window-short d call number))
 

@@ -1,24 +1,24 @@
 -- What the editions differ in.
 -- Assumes nothing.
-use mathlib.Core.Path.{◌≡◌, ◌∙◌}
+use mathlib.Core.Path.{◌≡◌, sym, ◌∙◌}
 use mathlib.Core.Bool.{true}
 use mathlib.Core.Logic.{◌↔◌}
 use Prim.Native.Nat.{ℕ, ◌+◌, ◌^◌, ◌<◌}
 use native.Mathlib.Omega.{arith}
-use Rattle.command.specs.Outcome.{outcome_number}
+use Rattle.command.specs.Outcome.{Outcome, outcome_number}
 use Rattle.command.specs.Report.{emits}
-use Rattle.command.specs.declared.outcome.Outcome.{Outcome}
 use Rattle.state.specs.declared.device.Device.{Device}
 use Rattle.state.specs.declared.edition.Edition.TheVariants.{One, Two}
 use Rattle.state.specs.Device.{Shaped, SlotsFit, slot_of}
 use Rattle.state.specs.Slots.{is_full}
-use Rattle.device.specs.Answer.{values_of}
-use Rattle.device.specs.Turn.{Call, unchanged, fence_of, device_after, finished, report_of, served_of}
+use Rattle.device.specs.Answer.{Values, values_of, report_values}
+use Rattle.device.specs.Turn.{Call, unchanged, device_after, finished, report_of, served_of}
+use Rattle.device.proofs.Answers.{emitted_told}
 use Rattle.device.proofs.Turns.{turn_cases}
 use Rattle.demands.specs.Calls.{head_in, values_in}
 use Rattle.demands.specs.EmitsAndWaits.{is_emitting}
 use Rattle.demands.specs.Editions.{Editions, TurnEditions}
-use Rattle.demands.proofs.Turns.{work_in, served_has}
+use Rattle.demands.proofs.Turns.{work_in, report_in, served_has}
 use Rattle.demands.proofs.Works.{full_1, free_2, full_slot_stays, emits_when_sound, five_full}
 use Rattle.demands.proofs.Devices.{after-emitted}
 use Rattle.demands.proofs.Emitting.{emitting_slot}
@@ -31,6 +31,14 @@ module _ (d : Device) (call : Call) where
   abbrev slot_in : ℕ → ℕ
   slot_in q = slot_of d (head_in d call q).rdst
 
+  abbrev told_in : ℕ → Values
+  told_in q = report_values (report_in d call q)
+
+  -- a fence is told of where the command emits
+  emits_told : (q : ℕ) → (told_in q).emitted ≡ emits (head_in d call q) (outcome_in q)
+  unfolding report_of
+  emits_told q = emitted_told _ _
+
   module _ (one : d.edition ≡ One) (q : ℕ) where
     five_1 : (outcome_number (outcome_in q) ≡ 5) ↔ ((is_emitting (head_in d call q) ≡ true) × (slot_in q ≡ 4294967295))
     five_1 =
@@ -40,10 +48,10 @@ module _ (d : Device) (call : Call) where
         )
 
     -- a slot that is added to is not full, so it does not go round
-    one_more : SlotsFit d → emits (head_in d call q) (outcome_in q) ≡ true
-        → fence_of (emits (head_in d call q) (outcome_in q)) (slot_in q) ≡ slot_in q + 1
-    unfolding fence_of SlotsFit
-    one_more fit e =
+    one_more : SlotsFit d → (told_in q).emitted ≡ true → (told_in q).fence ≡ slot_in q + 1
+    unfolding report_of SlotsFit
+    one_more fit told =
+        let e : emits (head_in d call q) (outcome_in q) ≡ true = sym (emits_told q) ∙ told in
         let below : slot_in q < 2 ^ 32 = fit (head_in d call q).rdst in
         let not_full : slot_in q ≡ 4294967295 → ⊥ = λ is. full_slot_stays _ _ _ _ _ _ _ _ e ((full_1 one).1 is) in
         rw e (omega (arith, below, not_full))
@@ -66,8 +74,8 @@ module _ (d : Device) (call : Call) where
         after-emitted d q c (work_in d call q).performed shaped (emitting_slot c emitting) (signals_2 emitting) ∙ rw full
 
     round-fence : is_emitting (head_in d call q) ≡ true → slot_in q ≡ 4294967295
-        → fence_of (emits (head_in d call q) (outcome_in q)) (slot_in q) ≡ 0
-    unfolding fence_of
+        → (told_in q).fence ≡ 0
+    unfolding report_of
     round-fence emitting full = rw (signals_2 emitting, full)
 
   never_5 : d.edition ≡ Two → (values_in d call).outcome ≡ 5 → ⊥
@@ -87,7 +95,7 @@ module _ (d : Device) (call : Call) where
         (λ v after. (v.outcome ≡ 5) ↔ ((is_emitting (head_in d call v.ring) ≡ true) × (slot_in v.ring ≡ 4294967295)))
         (five_1 one);
     fence_1 = λ one. served_has d call (λ v after. v.emitted ≡ true → v.fence ≡ slot_in v.ring + 1) (λ q. one_more one q fit);
-    signals = λ two. served_has d call (λ v after. is_emitting (head_in d call v.ring) ≡ true → v.emitted ≡ true) (signals_2 two);
+    signals = λ two. served_has d call (λ v after. is_emitting (head_in d call v.ring) ≡ true → v.emitted ≡ true) (λ q emitting. emits_told q ∙ signals_2 two q emitting);
     round = λ two number emitting full. record {
       fence =
           served_has d call

@@ -10,14 +10,13 @@ use native.Mathlib.Omega.{arith}
 use lib.Dec.{eqb}
 use lib.ListN.{get_or}
 use borrow.Author.Tests.{leb-true, le-leb, eqb-true, eqb-false}
+use Rattle.std.specs.Prelude.{Ok, Some}
 use Rattle.command.specs.Header.{command_at, is_whole}
 use Rattle.command.proofs.Agree.{command-agree, whole_agree}
 use Rattle.words.proofs.Choices.{both_left, both_right}
 use Rattle.state.specs.declared.device.Device.{Device}
 use Rattle.state.specs.declared.edition.Edition.TheVariants.{One}
 use Rattle.state.specs.declared.edition.Start.{Start}
-use Rattle.state.specs.declared.refusal.Verdict.TheVariants.{Sound}
-use Rattle.state.specs.declared.ready.Picked.TheVariants.{Ring as RingOf}
 use Rattle.state.specs.Device.{fresh_device, SlotsFit, ring_of, slot_of}
 use Rattle.device.specs.Answer.{values_of}
 use Rattle.state.specs.Ready.{ready_with, ready_where, ready_at, pick_of}
@@ -66,7 +65,7 @@ HeadReady b k d = ready_with d.edition (command_at b k) (slot_of d (command_at b
 -- the head command of ring q is ready in devices that are Kept, and served turns over calls that are Lent keep them so
 module _ (q : ℕ) (b : List ℕ) (k : ℕ) (Kept : Device → Type 0) (Lent : Call → Type 0) (ready-now : (d : Device) → Kept d → HeadReady b k d)
     (same_head : (call : Call) → Lent call → SameHead b k (ring_in call q))
-    (keeps_on : (d : Device) (call : Call) (r : ℕ) → Kept d → Lent call → verdict_on d call ≡ Sound → pick_in d call ≡ RingOf r
+    (keeps_on : (d : Device) (call : Call) (r : ℕ) → Kept d → Lent call → verdict_on d call ≡ Ok tt → pick_in d call ≡ Some r
     → Kept (served_in d call r).turned.device) where
   -- the ring is j further than the marker
   record Waiting (j : ℕ) (d : Device) : Type 0 where
@@ -111,13 +110,13 @@ module _ (q : ℕ) (b : List ℕ) (k : ℕ) (Kept : Device → Type 0) (Lent : C
     unfolding served_of finished report_of values_of
     served_now i e = serves (record { served = refl; ring = e })
 
-    reached : SameHead b k (ring_in call q) → (i : ℕ) × (i ≤ j) × (pick_in d call ≡ RingOf (walk i d.marker))
+    reached : SameHead b k (ring_in call q) → (i : ℕ) × (i ≤ j) × (pick_in d call ≡ Some (walk i d.marker))
     unfolding pick_of
     reached same =
         seek_reaches (λ r. ready_at d r (ring_in call r)) 4 j d.marker w.small
         (rw w.away (still-ready j d w (ring_in call q) same))
 
-    picked : (r : ℕ) → verdict_on d call ≡ Sound → pick_in d call ≡ RingOf r → Lent call → Step j d (served_in d call r)
+    picked : (r : ℕ) → verdict_on d call ≡ Ok tt → pick_in d call ≡ Some r → Lent call → Step j d (served_in d call r)
     picked r sound e lent =
         let near = reached (same_head call lent) in
         let i = near.0 in
@@ -219,7 +218,7 @@ record Counted (chosen : Start) (R : ℕ → List ℕ) (b : List ℕ) (k : ℕ) 
 
 module _ (chosen : Start) (R : ℕ → List ℕ) (b : List ℕ) (k : ℕ)
     (near : is_waiting (command_at b k) ≡ true → NearStart chosen (command_at b k).target) where
-  counted_on : (d : Device) (call : Call) (r : ℕ) → Counted chosen R b k d → Lends R call → verdict_on d call ≡ Sound → pick_in d call ≡ RingOf r
+  counted_on : (d : Device) (call : Call) (r : ℕ) → Counted chosen R b k d → Lends R call → verdict_on d call ≡ Ok tt → pick_in d call ≡ Some r
       → Counted chosen R b k (served_in d call r).turned.device
   counted_on d call r was lends sound pick =
       let t = was.taken in
@@ -241,10 +240,10 @@ module _ (chosen : Start) (R : ℕ → List ℕ) (b : List ℕ) (k : ℕ)
 
 pub fresh_four_turns : FreshFourTurns
 unfolding FreshFourTurns TargetsNear ready_at ready_where slot_of
-fresh_four_turns w0 w1 w2 w3 limit chosen R before near each-before q calls four ready each enough =
-    let fresh = fresh_device w0 w1 w2 w3 limit chosen in
+fresh_four_turns windows limit chosen R before near each-before q calls four ready each enough =
+    let fresh = fresh_device windows limit chosen in
     let d = last_of fresh before in
-    let ran = run_took chosen R before fresh (λ q. 0) (fresh_took chosen R w0 w1 w2 w3 limit) each-before in
+    let ran = run_took chosen R before fresh (λ q. 0) (fresh_took chosen R windows limit) each-before in
     let k = (ring_of d q).cursor in
     let at : k ≡ place_of (R q) (ran.0 q) = ran.1.cursors q four in
     let whole = both_left (is_whole (R q) k) (ready_with d.edition (command_at (R q) k) (slot_of d (command_at (R q) k).rdst)) ready in

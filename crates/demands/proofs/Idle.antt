@@ -9,10 +9,9 @@ use native.Mathlib.Nat.{eq-or-lt_of_le}
 use native.Mathlib.Omega.{arith}
 use lib.Dec.{eqb}
 use borrow.Author.Tests.{eqb-true, eqb-false}
+use Rattle.std.specs.Prelude.{None, Ok}
 use Rattle.state.specs.declared.device.Device.{Device}
 use Rattle.state.specs.declared.edition.Start.{Start}
-use Rattle.state.specs.declared.refusal.Verdict.TheVariants.{Sound}
-use Rattle.state.specs.declared.ready.Picked.TheVariants.{Nobody}
 use Rattle.device.specs.declared.turn.Answer.TheVariants.{Idle}
 use Rattle.state.specs.Device.{fresh_device, ring_of, slot_of}
 use Rattle.state.specs.Ready.{ready_where, ready_at, pick_of}
@@ -30,13 +29,13 @@ use Rattle.demands.proofs.Orders.{more-here, more_other, count_rises}
 use Rattle.demands.proofs.Took.{Took, few_emits, run_took, fresh_took}
 
 -- an idle call is not refused, and picks no ring
-idle_picks : (d : Device) (call : Call) → answer_of d call ≡ Idle → (verdict_on d call ≡ Sound) × (pick_in d call ≡ Nobody)
+idle_picks : (d : Device) (call : Call) → answer_of d call ≡ Idle → (verdict_on d call ≡ Ok tt) × (pick_in d call ≡ None)
 unfolding unchanged served_of finished report_of
 idle_picks d call e =
-    turn_cases d call (λ a. a.turned.answer ≡ Idle → (verdict_on d call ≡ Sound) × (pick_in d call ≡ Nobody))
-    (λ why v a. absurd (let z : ◌≡◌ {A = ℕ} 0 1 = cc in omega arith))
+    turn_cases d call (λ a. a.turned.answer ≡ Idle → (verdict_on d call ≡ Ok tt) × (pick_in d call ≡ None))
+    (λ why v a. absurd (grind arith))
     (λ sound p a. (sound, p))
-    (λ r sound p a. absurd (let z : ◌≡◌ {A = ℕ} 0 1 = cc in omega arith))
+    (λ r sound p a. absurd (grind arith))
     e
 
 -- so no ring is ready
@@ -75,9 +74,9 @@ module _ (chosen : Start) (R : ℕ → List ℕ) (near : TargetsNear chosen R) w
 
 pub idle-is_done : IdleIsDone
 unfolding IdleIsDone
-idle-is_done w0 w1 w2 w3 limit chosen R calls last near each lends idle n order q =
-    let fresh = fresh_device w0 w1 w2 w3 limit chosen in
-    let ran = run_took chosen R calls fresh (λ q. 0) (fresh_took chosen R w0 w1 w2 w3 limit) each in
+idle-is_done windows limit chosen R calls last near each lends idle n order q =
+    let fresh = fresh_device windows limit chosen in
+    let ran = run_took chosen R calls fresh (λ q. 0) (fresh_took chosen R windows limit) each in
     let said = idle-answer _ idle in
     let few = few_emits chosen R (last_of fresh calls) ran.0 ran.1 last (idle_picks (last_of fresh calls) last said).0 in
     let unready = idle_unready (last_of fresh calls) last said in

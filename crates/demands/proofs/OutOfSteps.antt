@@ -10,8 +10,7 @@ use Rattle.pack.specs.declared.kernels.Kernel.{Kernel}
 use Rattle.kernel.specs.declared.step.Stop.{Stop}
 use Rattle.kernel.specs.declared.step.Stop.TheVariants.{NotListed, OffTheKernel, OutsideTheWindow, OutOfSteps}
 use Rattle.kernel.specs.declared.dispatch.ThreadStop.{ThreadStop}
-use Rattle.kernel.specs.declared.dispatch.Ran.{Ran}
-use Rattle.kernel.specs.declared.dispatch.Ran.TheVariants.{Done, Stopped as StoppedFor}
+use Rattle.std.specs.Prelude.{Result, Ok, Err}
 use Rattle.kernel.specs.Thread.{started}
 use Rattle.kernel.specs.Run.{run_of}
 use Rattle.kernel.specs.Dispatch.{Dispatched, stop_at, thread_of, threads_of}
@@ -36,7 +35,7 @@ module _ (limit : ℕ) (pack : List ℕ) (kernel : Kernel) (groups threads : ℕ
   abbrev all : Dispatched
   all = threads_of (groups * threads) limit pack kernel groups threads window
 
-  out_then_first : (stop : ThreadStop) → all.ran ≡ StoppedFor stop → stop.why ≡ OutOfSteps → FirstOutOfSteps limit pack kernel groups threads window
+  out_then_first : (stop : ThreadStop) → all.ran ≡ Err stop → stop.why ≡ OutOfSteps → FirstOutOfSteps limit pack kernel groups threads window
   unfolding thread_of
   out_then_first stop e out =
       let s = stopper limit pack kernel groups threads window (groups * threads) stop e in
@@ -53,7 +52,7 @@ module _ (limit : ℕ) (pack : List ℕ) (kernel : Kernel) (groups threads : ℕ
         thread_below = mod-lt s.number some;
         window-before = s.left;
         before = rw (div-add-mod' s.number threads) s.before;
-        still = (thread_out_of_steps limit pack kernel groups threads g j s.left).0 (s.stopped ∙ ap StoppedFor told);
+        still = (thread_out_of_steps limit pack kernel groups threads g j s.left).0 (s.stopped ∙ ap Err told);
       }
 
   first_then_out : FirstOutOfSteps limit pack kernel groups threads window → outcome_number (ran_outcome all.ran) ≡ 14
@@ -71,6 +70,6 @@ module _ (limit : ℕ) (pack : List ℕ) (kernel : Kernel) (groups threads : ℕ
   unfolding ran_outcome
   first_out_of_steps = (λ e. there all.ran refl e, first_then_out)
     where
-      there : (r : Ran) → all.ran ≡ r → outcome_number (ran_outcome r) ≡ 14 → FirstOutOfSteps limit pack kernel groups threads window
-      there Done now e = absurd (omega (arith, e))
-      there (StoppedFor stop) now e = out_then_first stop now (fourteen stop.why e)
+      there : (r : Result Unit ThreadStop) → all.ran ≡ r → outcome_number (ran_outcome r) ≡ 14 → FirstOutOfSteps limit pack kernel groups threads window
+      there (Ok u) now e = absurd (omega (arith, e))
+      there (Err stop) now e = out_then_first stop now (fourteen stop.why e)

@@ -1,6 +1,6 @@
 -- A step tells an address only of the load or store that reached outside the window, and it is the first that is not inside.
 -- Assumes nothing.
-use mathlib.Core.Path.{◌≡◌, refl, subst, ◌∙◌}
+use mathlib.Core.Path.{◌≡◌, refl, subst, ap, ◌∙◌}
 use mathlib.Core.List.{List}
 use mathlib.Core.Logic.{◌⊎◌, inl, inr, ⊎_elim}
 use Prim.Native.Nat.{ℕ, ◌+◌, ◌^◌, ◌≤◌, ◌<◌}
@@ -9,11 +9,10 @@ use lib.ListN as ListN
 use Rattle.words.specs.Arithmetic.{sum}
 use Rattle.words.proofs.Choices.{cond_has}
 use Rattle.words.proofs.Order.{lt_or_ge}
-use Rattle.memory.specs.declared.address.Reach.{Reach}
-use Rattle.memory.specs.declared.address.Reach.TheVariants.{Inside, Outside}
-use Rattle.memory.specs.declared.access.Loaded.TheVariants.{Value, Outside as NoValue}
-use Rattle.memory.specs.declared.quad.LoadedQuad.TheVariants.{Words, Outside as NoWords}
-use Rattle.memory.specs.Address.{first_outside, reach_of, if_inside}
+use Rattle.std.specs.Prelude.{Result, Ok, Err}
+use Rattle.memory.specs.declared.address.Outside.{Outside}
+use Rattle.memory.specs.declared.quad.Quad.{Quad}
+use Rattle.memory.specs.Address.{first_outside, outside_at, reach_of, if_inside}
 use Rattle.memory.specs.Access.{load_of}
 use Rattle.memory.specs.Quad.{quad_at, load_quad_of}
 use Rattle.memory.proofs.Reach.{reach_cases, first_is_own, first_is_length}
@@ -39,7 +38,7 @@ record Tested (window : List ℕ) (op : Op) (x first : ℕ) : Type 0 where
   address : ℕ
   count : ℕ
   access : Accesses op x address count
-  tested : reach_of (ListN.length window) address count ≡ Outside first
+  tested : reach_of (ListN.length window) address count ≡ Err (outside_at first)
 
 -- what a progress tells of the instruction's access
 abbrev Told : List ℕ → Op → ℕ → Progress → Type 0
@@ -50,22 +49,22 @@ Told window op x (Stopped OffTheKernel) = Unit {0}
 Told window op x (Stopped (OutsideTheWindow first)) = Tested window op x first
 Told window op x (Stopped OutOfSteps) = Unit {0}
 
-module _ (length rd y : ℕ) (vectors : List ℕ) (t : Thread) (window : List ℕ) where
+module _ (length rd y : ℕ) (vectors : List Quad) (t : Thread) (window : List ℕ) where
   of_go : (op : Op) (x offset : ℕ) → Told window op x (branched length offset t).progress
   unfolding branched stops
   of_go op x offset = cond_has (λ (s : Stepped). Told window op x s.progress) (lands length (sum 32 t.place offset)) (λ e. tt) (λ e. tt)
 
-  of_store : (op : Op) (x address count : ℕ) → Accesses op x address count → (r : Reach) → reach_of (ListN.length window) address count ≡ r
+  of_store : (op : Op) (x address count : ℕ) → Accesses op x address count → (r : Result Unit Outside) → reach_of (ListN.length window) address count ≡ r
       → Told window op x (after_store r t).progress
   unfolding after_store if_inside goes_on stops
-  of_store op x address count access Inside e = tt
-  of_store op x address count access (Outside first) e = record { address = address; count = count; access = access; tested = e }
+  of_store op x address count access (Ok u) e = tt
+  of_store op x address count access (Err o) e = record { address = address; count = count; access = access; tested = e }
 
-  of_load : (op : Op) (x address count v : ℕ) → Accesses op x address count → (r : Reach) → reach_of (ListN.length window) address count ≡ r
-      → Told window op x (applied length rd (loaded_effect (if_inside r (Value v) NoValue)) t window).stepped.progress
+  of_load : (op : Op) (x address count v : ℕ) → Accesses op x address count → (r : Result Unit Outside) → reach_of (ListN.length window) address count ≡ r
+      → Told window op x (applied length rd (loaded_effect (if_inside r (Ok v) Err)) t window).stepped.progress
   unfolding loaded_effect if_inside applied goes_on stops
-  of_load op x address count v access Inside e = tt
-  of_load op x address count v access (Outside first) e = record { address = address; count = count; access = access; tested = e }
+  of_load op x address count v access (Ok u) e = tt
+  of_load op x address count v access (Err o) e = record { address = address; count = count; access = access; tested = e }
 
   -- each instruction tells of its access alone
   told : (op : Op) (x : ℕ) → Told window op x (applied length rd (effect_of op x y vectors window) t window).stepped.progress
@@ -85,10 +84,10 @@ module _ (length rd y : ℕ) (vectors : List ℕ) (t : Thread) (window : List �
   told (Vextr v1) x = tt
   told (Vld vd) x = go _ refl
     where
-      go : (r : Reach) → reach_of (ListN.length window) x 16 ≡ r
-          → Told window (Vld vd) x (applied length rd (loaded_quad_effect vd (if_inside r (Words (quad_at window x)) NoWords)) t window).stepped.progress
-      go Inside e = tt
-      go (Outside first) e = record { address = x; count = 16; access = (refl, refl); tested = e }
+      go : (r : Result Unit Outside) → reach_of (ListN.length window) x 16 ≡ r
+          → Told window (Vld vd) x (applied length rd (loaded_quad_effect vd (if_inside r (Ok (quad_at window x)) Err)) t window).stepped.progress
+      go (Ok u) e = tt
+      go (Err o) e = record { address = x; count = 16; access = (refl, refl); tested = e }
   told (Vst v2) x = of_store (Vst v2) x _ _ (refl, refl) _ refl
   told Unlisted x = tt
 
@@ -104,12 +103,13 @@ reaches pack kernel t window first small s = ⊎_elim inside outside (reach_case
     a : ℕ
     a = s.address
 
-    inside : (a + s.count ≤ n) × (reach_of n a s.count ≡ Inside) → ReachesOut pack kernel t window first
-    inside h = let tested = s.tested in absurd (let z : ◌≡◌ {A = ℕ} 0 1 = cc in omega arith)
+    inside : (a + s.count ≤ n) × (reach_of n a s.count ≡ Ok tt) → ReachesOut pack kernel t window first
+    inside h = let tested = s.tested in absurd (grind arith)
 
-    outside : (n < a + s.count) × (reach_of n a s.count ≡ Outside (first_outside n a)) → ReachesOut pack kernel t window first
+    outside : (n < a + s.count) × (reach_of n a s.count ≡ Err (outside_at (first_outside n a))) → ReachesOut pack kernel t window first
     outside h =
-        let same : first ≡ first_outside n a = let tested = s.tested in cc in
+        let told : outside_at first ≡ outside_at (first_outside n a) = let tested = s.tested in cc in
+        let same : first ≡ first_outside n a = ap (λ (o : Outside). o.first) told in
         record {
           address = a;
           count = s.count;
@@ -127,10 +127,10 @@ reaches_out limit pack kernel t window first small e = go (lt_or_ge t.steps limi
     go : (t.steps < limit) ⊎ (limit ≤ t.steps) → (t.place < kernel.length) ⊎ (kernel.length ≤ t.place) → ReachesOut pack kernel t window first
     go (inr h) place =
         let stop : Stopped OutOfSteps ≡ Stopped (OutsideTheWindow first) = rw (at_the_limit limit pack kernel t window h) at e in
-        absurd (let z : ◌≡◌ {A = ℕ} 0 1 = cc in omega arith)
+        absurd (grind arith)
     go (inl h) (inr off) =
         let stop : Stopped OffTheKernel ≡ Stopped (OutsideTheWindow first) = rw (off_the_end limit pack kernel t window h off) at e in
-        absurd (let z : ◌≡◌ {A = ℕ} 0 1 = cc in omega arith)
+        absurd (grind arith)
     go (inl h) (inl on) =
         let i = decoded (code_word pack kernel t.place) in
         let x = scalar_of t.registers i.rs1 in

@@ -5,9 +5,8 @@ use mathlib.Core.Path.{◌≡◌, refl, ap}
 use Prim.Native.Nat.{ℕ, ◌+◌}
 use native.Mathlib.Omega.{arith}
 use lib.Dec.{eqb}
+use Rattle.std.specs.Prelude.{Ok, Some}
 use Rattle.state.specs.declared.device.Device.{Device}
-use Rattle.state.specs.declared.refusal.Verdict.TheVariants.{Sound}
-use Rattle.state.specs.declared.ready.Picked.TheVariants.{Ring as RingOf}
 use Rattle.state.specs.Device.{Shaped, ring_of}
 use Rattle.device.specs.Answer.{values_of}
 use Rattle.device.specs.Turn.{Call, ring_after, finished, report_of, served_of, verdict_on, pick_in}
@@ -19,7 +18,7 @@ use Rattle.demands.proofs.Turns.{work_in}
 
 module _ (d : Device) (call : Call) (r : ℕ) where
   -- the cursor of a served ring moves past its command
-  pub served-cursor : Shaped d → verdict_on d call ≡ Sound → pick_in d call ≡ RingOf r
+  pub served-cursor : Shaped d → verdict_on d call ≡ Ok tt → pick_in d call ≡ Some r
       → (ring_of (served_in d call r).turned.device r).cursor ≡ (ring_of d r).cursor + (head_in d call r).size
   unfolding served_of finished ring_after
   served-cursor shaped sound pick =

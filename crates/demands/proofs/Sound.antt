@@ -3,11 +3,13 @@
 use mathlib.Core.Path.{◌≡◌, refl, sym, ap, ◌∙◌}
 use mathlib.Core.Bool.{Bool, true, false, cond}
 use mathlib.Core.List.{[], ◌∷◌}
+use mathlib.Core.List.{List}
 use Prim.Native.Nat.{ℕ, ◌+◌, ◌≤◌, ◌<◌}
 use native.Mathlib.Omega.{arith}
 use lib.Dec.{leb, lit≤, lit<}
 use lib.ListN.{length}
 use borrow.Author.Tests.{eqb-true, le-leb, lt-leb}
+use Rattle.std.specs.Prelude.{Err, Ok, Result, Some}
 use Rattle.memory.proofs.Window.{window-length}
 use Rattle.command.specs.Outcome.{is_done}
 use Rattle.command.specs.Frame.{held_fault}
@@ -18,11 +20,8 @@ use Rattle.state.specs.declared.device.Device.{Device}
 use Rattle.state.specs.declared.edition.Start.{Start}
 use Rattle.state.specs.declared.edition.Start.TheVariants.{Edition1}
 use Rattle.state.specs.declared.refusal.Refusal.{Refusal}
-use Rattle.state.specs.declared.refusal.Verdict.{Verdict}
-use Rattle.state.specs.declared.refusal.Verdict.TheVariants.{Sound, Refused}
-use Rattle.state.specs.declared.ready.Picked.TheVariants.{Ring as RingOf}
-use Rattle.state.specs.Counts.{total, balanced}
-use Rattle.state.specs.Device.{Shaped, empty_window, fresh_device, empty_device, default_limit, ring_of, slot_of}
+use Rattle.state.specs.Counts.{balanced}
+use Rattle.state.specs.Device.{Shaped, empty_windows, fresh_device, empty_device, default_limit, ring_of, slot_of}
 use Rattle.device.specs.Answer.{answer_number}
 use Rattle.state.specs.Refusal.{refusal_number, window_fits, memory_fits, windows_fit, ring_sound, limit_fits, state_sound, verdict_of}
 use Rattle.state.proofs.Limits.{default_fits, limit_unfit}
@@ -49,13 +48,13 @@ sound_if d marker limit counts rings =
     rw (le-leb d.marker 3 (omega arith), limit, counts, rings 0 (lit< tt), rings 1 (lit< tt), rings 2 (lit< tt), rings 3 (lit< tt))
 
 -- what holds of the numbers that a verdict may give
-abbrev Numbers : (ℕ → Type 0) → Verdict → Type 0
-Numbers P Sound = (n : ℕ) → n ≤ 1 → P n
-Numbers P (Refused why) = P (refusal_number why)
+abbrev Numbers : (ℕ → Type 0) → Result Unit Refusal → Type 0
+Numbers P (Ok heard) = (n : ℕ) → n ≤ 1 → P n
+Numbers P (Err why) = P (refusal_number why)
 
 module _ (d : Device) (shaped : Shaped d) (call : Call) where
   -- the ring that a turn served is sound: its cursor ends in its bytes, and its frame is one that SET_FB did not refuse
-  module _ (q : ℕ) (sound : verdict_on d call ≡ Sound) (pick : pick_in d call ≡ RingOf q) (state : state_sound d ≡ true) where
+  module _ (q : ℕ) (sound : verdict_on d call ≡ Ok tt) (pick : pick_in d call ≡ Some q) (state : state_sound d ≡ true) where
     cursor-inside : (ring_of d q).cursor + (head_in d call q).size ≤ 65536
     cursor-inside =
         let s = picked_servable d call q sound pick in
@@ -112,16 +111,16 @@ module _ (d : Device) (call : Call) where
   left-fits memory = rw (left-windows 0, left-windows 1, left-windows 2, left-windows 3)
 
   -- a refused call's number is its refusal's
-  refused-number : {why : Refusal} → verdict_on d call ≡ Refused why → answer_number (answer_of d call) ≡ refusal_number why
+  refused-number : {why : Refusal} → verdict_on d call ≡ Err why → answer_number (answer_of d call) ≡ refusal_number why
   unfolding unchanged
   refused-number {why} e = ap (λ end. answer_number end.turned.answer) (turn-refused d call why e)
 
   -- one that is not refused is idle or served
-  heard-number : verdict_on d call ≡ Sound → answer_number (answer_of d call) ≤ 1
+  heard-number : verdict_on d call ≡ Ok tt → answer_number (answer_of d call) ≤ 1
   unfolding unchanged served_of finished report_of
   heard-number sound =
       turn_cases d call (λ a. answer_number a.turned.answer ≤ 1)
-      (λ why v. absurd (let z : ◌≡◌ {A = ℕ} 0 1 = cc in omega arith))
+      (λ why v. absurd (grind arith))
       (λ sound p. lit≤ tt)
       (λ q sound p. lit≤ tt)
 
@@ -134,7 +133,7 @@ module _ (d : Device) (call : Call) where
       (each (windows_fit d (length call.memory)) (state_sound d) (lent_rings_fit d call) (leb 1020 (length call.pipe)) (sound_pack call.pack) refl refl)
     where
       each : (m s r p k : Bool) → windows_fit d (length call.memory) ≡ m → state_sound d ≡ s
-          → Numbers P (cond m (cond s (cond r (cond p (cond k Sound (Refused Refusal.Pack)) (Refused Refusal.Pipe)) (Refused Refusal.Rings)) (Refused Refusal.State)) (Refused Refusal.Memory))
+          → Numbers P (cond m (cond s (cond r (cond p (cond k (Ok tt) (Err Refusal.Pack)) (Err Refusal.Pipe)) (Err Refusal.Rings)) (Err Refusal.State)) (Err Refusal.Memory))
       each true true true true true em es = (sound es).3
       each true true true true false em es = (sound es).2
       each true true true false k em es = (sound es).1
@@ -142,9 +141,9 @@ module _ (d : Device) (call : Call) where
       each true false r p k em es = state es
       each false s r p k em es = memory em
 
-      go : (v : Verdict) → verdict_on d call ≡ v → Numbers P v → P (answer_number (answer_of d call))
-      go Sound e numbers = numbers _ (heard-number e)
-      go (Refused why) e numbers = rw (refused-number e) numbers
+      go : (v : Result Unit Refusal) → verdict_on d call ≡ v → Numbers P v → P (answer_number (answer_of d call))
+      go (Ok heard) e numbers = numbers _ (heard-number e)
+      go (Err why) e numbers = rw (refused-number e) numbers
 
   -- so 101 and 102 are no number of a call where they may not be given
   number_not : (k : ℕ) → 2 ≤ k → k ≤ 102 → (windows_fit d (length call.memory) ≡ false → k ≡ 101 → ⊥) → (state_sound d ≡ false → k ≡ 102 → ⊥)
@@ -208,48 +207,48 @@ pub sound_refusals : SoundRefusals
 unfolding SoundRefusals
 sound_refusals d call = refused_for_lent d call
 
-fresh_sound : (w0 w1 w2 w3 : Window) (limit : ℕ) (chosen : Start) → limit_fits limit ≡ true
-    → state_sound (fresh_device w0 w1 w2 w3 limit chosen) ≡ true
-unfolding fresh_device ring_of state_sound ring_sound held_fault balanced total
-fresh_sound w0 w1 w2 w3 limit chosen fits = rw fits
+fresh_sound : (windows : List Window) (limit : ℕ) (chosen : Start) → limit_fits limit ≡ true
+    → state_sound (fresh_device windows limit chosen) ≡ true
+unfolding fresh_device ring_of state_sound ring_sound held_fault balanced
+fresh_sound windows limit chosen fits = rw fits
 
-fresh-fits : (memory : ℕ) (w0 w1 w2 w3 : Window) (limit : ℕ) (chosen : Start)
-    → windows_fit (fresh_device w0 w1 w2 w3 limit chosen) memory ≡ memory_fits memory w0 w1 w2 w3
-unfolding fresh_device ring_of windows_fit
-fresh-fits memory w0 w1 w2 w3 limit chosen = refl
+fresh-fits : (memory : ℕ) (windows : List Window) (limit : ℕ) (chosen : Start)
+    → windows_fit (fresh_device windows limit chosen) memory ≡ memory_fits memory windows
+unfolding fresh_device ring_of windows_fit memory_fits
+fresh-fits memory windows limit chosen = refl
 
 -- four empty windows fit every memory that is not too long
-empty-fit : (n : ℕ) → n ≤ 1048576 → memory_fits n empty_window empty_window empty_window empty_window ≡ true
+empty-fit : (n : ℕ) → n ≤ 1048576 → memory_fits n empty_windows ≡ true
 unfolding memory_fits window_fits
 empty-fit n short = rw (le-leb n 1048576 short, le-leb 0 n (omega arith))
 
 -- the empty device is sound, and its windows fit every memory that is not too long
 empty_sound : state_sound empty_device ≡ true
 unfolding empty_device
-empty_sound = fresh_sound empty_window empty_window empty_window empty_window default_limit Edition1 default_fits
+empty_sound = fresh_sound empty_windows default_limit Edition1 default_fits
 
 empty-fits : (n : ℕ) → n ≤ 1048576 → windows_fit empty_device n ≡ true
 unfolding empty_device
-empty-fits n short = fresh-fits n empty_window empty_window empty_window empty_window default_limit Edition1 ∙ empty-fit n short
+empty-fits n short = fresh-fits n empty_windows default_limit Edition1 ∙ empty-fit n short
 
 pub fresh_makes_sound : FreshMakesSound
 unfolding FreshMakesSound fresh_with not_made
-fresh_makes_sound memory w0 w1 w2 w3 limit chosen = go (memory_fits memory w0 w1 w2 w3) (limit_fits limit) refl refl
+fresh_makes_sound memory windows limit chosen = go (memory_fits memory windows) (limit_fits limit) refl refl
   where
-    go : (m l : Bool) → memory_fits memory w0 w1 w2 w3 ≡ m → limit_fits limit ≡ l → MakesSound memory w0 w1 w2 w3 limit chosen
+    go : (m l : Bool) → memory_fits memory windows ≡ m → limit_fits limit ≡ l → MakesSound memory windows limit chosen
     go true true fits limited = record {
-      state = rw (fits, limited) (fresh_sound w0 w1 w2 w3 limit chosen limited);
-      windows = λ made. rw (fits, limited) (fresh-fits memory w0 w1 w2 w3 limit chosen ∙ fits);
+      state = rw (fits, limited) (fresh_sound windows limit chosen limited);
+      fits = λ made. rw (fits, limited) (fresh-fits memory windows limit chosen ∙ fits);
       empty = λ refused n short. absurd (let z : 101 ≤ 0 = rw (fits, limited) at refused in omega arith);
     }
     go true false fits unfit = record {
       state = rw (fits, unfit) empty_sound;
-      windows = λ made. absurd (let z : ◌≡◌ {A = ℕ} 102 0 = rw (fits, unfit) at made in omega arith);
+      fits = λ made. absurd (let z : ◌≡◌ {A = ℕ} 102 0 = rw (fits, unfit) at made in omega arith);
       empty = λ refused n short. rw (fits, unfit) (empty-fits n short);
     }
     go false l unfit limited = record {
       state = rw unfit empty_sound;
-      windows = λ made. absurd (let z : ◌≡◌ {A = ℕ} 101 0 = rw unfit at made in omega arith);
+      fits = λ made. absurd (let z : ◌≡◌ {A = ℕ} 101 0 = rw unfit at made in omega arith);
       empty = λ refused n short. rw unfit (empty-fits n short);
     }
 
@@ -262,6 +261,6 @@ calls_stay_sound d shaped memory (call ∷ calls) state fits =
 
 pub fresh_stays_sound : FreshStaysSound
 unfolding FreshStaysSound FreshMakesSound CallsStaySound
-fresh_stays_sound memory w0 w1 w2 w3 limit chosen calls made =
-    let fresh = fresh_makes_sound memory w0 w1 w2 w3 limit chosen in
-    calls_stay_sound (fresh_with memory w0 w1 w2 w3 limit chosen).device (made_shaped memory w0 w1 w2 w3 limit chosen) memory calls fresh.state (fresh.windows made)
+fresh_stays_sound memory windows limit chosen calls made =
+    let fresh = fresh_makes_sound memory windows limit chosen in
+    calls_stay_sound (fresh_with memory windows limit chosen).device (made_shaped memory windows limit chosen) memory calls fresh.state (fresh.fits made)

@@ -19,8 +19,7 @@ use Rattle.kernel.specs.declared.thread.Thread.{Thread}
 use Rattle.kernel.specs.declared.step.Stop.{Stop}
 use Rattle.kernel.specs.declared.step.Stop.TheVariants.{NotListed, OffTheKernel, OutsideTheWindow, OutOfSteps}
 use Rattle.kernel.specs.declared.dispatch.ThreadStop.{ThreadStop}
-use Rattle.kernel.specs.declared.dispatch.Ran.{Ran}
-use Rattle.kernel.specs.declared.dispatch.Ran.TheVariants.{Done, Stopped}
+use Rattle.std.specs.Prelude.{Result, Ok, Err}
 use Rattle.kernel.specs.declared.site.Site.{Site}
 use Rattle.kernel.specs.Registers.{scalar_of}
 use Rattle.kernel.specs.Thread.{started}
@@ -68,27 +67,27 @@ module _ (limit : ℕ) (pack : List ℕ) (kernel : Kernel) (groups threads : ℕ
     pub below : number < n
     pub left : List ℕ
     pub before : first_threads number ≡ going left
-    pub stopped : (thread_of limit pack kernel groups threads number left).ran ≡ Stopped stop
+    pub stopped : (thread_of limit pack kernel groups threads number left).ran ≡ Err stop
 
-  pub stopper : (n : ℕ) (stop : ThreadStop) → (first_threads n).ran ≡ Stopped stop → Stopper n stop
+  pub stopper : (n : ℕ) (stop : ThreadStop) → (first_threads n).ran ≡ Err stop → Stopper n stop
   stopper zero stop e =
       let none = no_thread limit pack kernel groups threads window in
-      absurd (let z : ◌≡◌ {A = ℕ} 0 1 = cc in omega arith)
+      absurd (grind arith)
   stopper (suc n) stop e = go (first_threads n).ran refl (stopper n stop)
     where
-      go : (r : Ran) → (first_threads n).ran ≡ r → ((first_threads n).ran ≡ Stopped stop → Stopper n stop) → Stopper (suc n) stop
-      go Done now lower =
+      go : (r : Result Unit ThreadStop) → (first_threads n).ran ≡ r → ((first_threads n).ran ≡ Err stop → Stopper n stop) → Stopper (suc n) stop
+      go (Ok u) now lower =
           let before : first_threads n ≡ going (first_threads n).window = ap (λ r. record { ran = r; window = (first_threads n).window }) now in
           let here = rw add-one at (one_thread-more limit pack kernel groups threads window n (first_threads n).window before) in
           record { number = n; below = omega arith; left = (first_threads n).window; before = before; stopped = rw here at e }
-      go (Stopped other) now lower =
+      go (Err other) now lower =
           let same = stop-ends limit pack kernel groups threads window n (suc n) other (omega arith) now in
           let s = lower (rw same at e) in
           record { number = s.number; below = omega arith; left = s.left; before = s.before; stopped = s.stopped }
 
   -- what is told of a dispatch's stop is the stopping thread's
-  pub stopped-thread : (stop : ThreadStop) → all.ran ≡ Stopped stop → ListN.length window < 2 ^ 32
-      → StoppedThread limit pack kernel groups threads window (stop_number stop.why) (site_of (Stopped stop))
+  pub stopped-thread : (stop : ThreadStop) → all.ran ≡ Err stop → ListN.length window < 2 ^ 32
+      → StoppedThread limit pack kernel groups threads window (stop_number stop.why) (site_of (Err stop))
   unfolding thread_of shown run_of site_of stops
   stopped-thread stop e small =
       let s = stopper (groups * threads) stop e in
@@ -102,7 +101,7 @@ module _ (limit : ℕ) (pack : List ℕ) (kernel : Kernel) (groups threads : ℕ
       let left : all.window ≡ step.window_there = ap (λ a. a.window) by ∙ ap (λ a. a.window) step.left in
       let short : ListN.length step.window_there < 2 ^ 32 =
       rw (← left, threads-length limit pack window (groups * threads) kernel groups threads) small in
-      subst (λ (a : ThreadStop). StoppedThread limit pack kernel groups threads window (stop_number a.why) (site_of (Stopped a))) (sym told.told)
+      subst (λ (a : ThreadStop). StoppedThread limit pack kernel groups threads window (stop_number a.why) (site_of (Err a))) (sym told.told)
       (record {
         group_below = (div-lt_iff_lt-mul some).1 s.below;
         thread_below = mod-lt s.number some;
@@ -136,13 +135,13 @@ module _ (limit : ℕ) (pack : List ℕ) (kernel : Kernel) (groups threads : ℕ
         let within = running_within limit pack kernel start s.window-before (starts_fresh site.group site.thread threads groups) s.steps (rw s.still) in
         stopped-run limit pack kernel start s.window-before s.steps s.standing s.window_there s.why within s.still (rw s.stop)
 
-    pub told_ran : all.ran ≡ Stopped told_stop
+    pub told_ran : all.ran ≡ Err told_stop
     unfolding stops
     told_ran =
         let run = its_run in
         let number = thread-number limit pack kernel groups threads site.group site.thread s.window-before s.thread_below in
         let shows = stopped-shown site.group site.thread (run_of limit pack kernel start s.window-before) s.why (rw run) in
-        let told : (thread_of limit pack kernel groups threads (site.group * threads + site.thread) s.window-before).ran ≡ Stopped told_stop =
+        let told : (thread_of limit pack kernel groups threads (site.group * threads + site.thread) s.window-before).ran ≡ Err told_stop =
         rw number (shows ∙ (rw (run, ← s.place))) in
         let below = number_below site.group site.thread groups threads s.group_below s.thread_below in
         ap (λ d. d.ran) (stopped_by limit pack kernel groups threads window (groups * threads) _ s.window-before told_stop below s.before told) ∙ told

@@ -14,7 +14,7 @@ use Rattle.instruction.specs.Effect.{branch_effect, effect_of}
 use Rattle.instruction.specs.Vectors.{quad_of, with_quad, lanes_of_quads, broadcast}
 use Rattle.kernel.specs.declared.step.Stop.{Stop}
 use Rattle.kernel.specs.declared.step.Stop.TheVariants.{NotListed, OffTheKernel, OutsideTheWindow, OutOfSteps}
-use Rattle.kernel.specs.declared.dispatch.Ran.TheVariants.{Done, Stopped}
+use Rattle.std.specs.Prelude.{Ok, Err}
 use Rattle.kernel.specs.Registers.{start_registers, scalar_of, with_scalar, with_vector}
 use Rattle.kernel.specs.Thread.{started, written, written_vector, moved_to, advanced}
 use Rattle.kernel.specs.Step.{stops, goes_on, ends_thread, lands, branched, after_store, applied, executed, step_of}
@@ -26,19 +26,20 @@ use Rattle.kernel.specs.Examples.{after_word, bytes_of_words, pack_of_words, pac
 use Rattle.demands.specs.Table.{framed_under, colored, StopOn0, one_thread, holding, vector, Table, LeastLimit, WhereStopped, Scrolled, RoundTheWrap, ReadyNoLonger}
 use Rattle.state.specs.Device.{default_limit, fresh_device, ring_of, slot_of, with_ring, with_slots, with_marker, with_counts}
 use Rattle.state.specs.PlusOne.{plus_one_at}
-use Rattle.state.specs.Counts.{counted, total, balanced}
+use Rattle.state.specs.Counts.{counted, balanced}
 use Rattle.state.specs.Refusal.{window_fits, memory_fits, windows_fit, ring_sound, limit_fits, state_sound, ring_fits, rings_fit, verdict_of}
 use Rattle.state.specs.Ready.{ready_with, ready_where, ready_at, next_ring, seek, bytes_of_ring, pick_of}
 use Rattle.device.specs.Answer.{values_of}
-use Rattle.device.specs.Turn.{unchanged, fence_of, emit_to, ring_after, device_after, report_of, finished, served_of, picked_of, judged_of, verdict_on, turn_of}
+use Rattle.device.specs.Turn.{unchanged, emit_to, ring_after, device_after, report_of, finished, served_of, picked_of, judged_of, verdict_on, turn_of}
+use Rattle.command.specs.Opcode.{opcode_of}
 use Rattle.command.specs.Table.{row_of}
 use Rattle.command.specs.Header.{wait_size, payload_size, target_at, command_at, is_whole}
 use Rattle.command.specs.Faults.{unknown_opcode, wrong_payload_bit, no_such_slot, header_fault}
-use Rattle.command.specs.Frame.{frame_misaligned, frame_unfit, frame_fault, held_fault}
+use Rattle.command.specs.Frame.{held_by, frame_misaligned, frame_unfit, frame_fault, held_fault}
 use Rattle.work.specs.Shape.{is_rectangle, size_of, width_of, height_of, end_of, too_narrow}
 use Rattle.work.specs.Checks.{slot_fault, misaligned, unframed, outside, unfit_frame, out_of_range, unfit_dispatch, check_of}
 use Rattle.command.specs.Report.{emits, interrupts, words_read}
-use Rattle.work.specs.Work.{leaves, stop_outcome, ran_outcome, ran_as, dispatched_by, after_dispatch, held_by, work_of}
+use Rattle.work.specs.Work.{leaves, stop_outcome, ran_outcome, ran_as, dispatched_by, after_dispatch, work_by, work_of}
 use Rattle.work.specs.Perform.{or_else, fault_of, guarded, performed_of}
 use Rattle.memory.specs.Address.{first_outside, reach_of, if_inside}
 use Rattle.memory.specs.Access.{with_value, store_of}
@@ -59,12 +60,12 @@ vadd = (refl, refl)
 -- a dispatch that stops so and leaves a window of zeros
 abbrev stopped : Stop → ℕ → ℕ → ℕ → Dispatched
 stopped why place group thread =
-    record { ran = Stopped (stop_at why place group thread); window = replicate 64 0 }
+    record { ran = Err (stop_at why place group thread); window = replicate 64 0 }
 
 -- a kernel of one word under the least limits
 least : (dispatch_of 1 (pack_of 0xFFF00297) 0 1 1 (replicate 64 0) ≡ stopped OutOfSteps 4 0 0)
     × (dispatch_of 2 (pack_of 0xFFF00297) 0 1 1 (replicate 64 0) ≡ stopped OffTheKernel 4 0 0)
-    × (dispatch_of 1 (pack_of 0x0000700F) 0 1 1 (replicate 64 0) ≡ record { ran = Done; window = replicate 64 0 })
+    × (dispatch_of 1 (pack_of 0x0000700F) 0 1 1 (replicate 64 0) ≡ record { ran = Ok tt; window = replicate 64 0 })
 unfolding dispatch_of threads_of thread_more if_done thread_of shown ran_of run_of steps_of step_more if_running running step_of stops ends_thread started start_registers executed decoded op_of immediate_row system_row effect_of alu_of applied goes_on advanced moved_to written with_scalar scalar_of kernel_of kernel_count first_word kernel_words after half_at word_at bytes_of_words
 least = (refl, refl, refl)
 
@@ -78,7 +79,7 @@ elsewhere = (refl, refl, refl, refl)
 
 -- all at once, since they open the same definitions
 worked : Table × LeastLimit × WhereStopped × Scrolled × RoundTheWrap × ReadyNoLonger
-unfolding RoundTheWrap ReadyNoLonger first_outside bytes_of_words values_of colored fresh_device ring_of slot_of with_ring with_slots plus_one_at with_marker with_counts counted total balanced window_fits memory_fits windows_fit ring_sound limit_fits state_sound ring_fits rings_fit verdict_of ready_with ready_where ready_at next_ring seek bytes_of_ring pick_of unchanged fence_of emit_to ring_after device_after report_of finished served_of picked_of judged_of verdict_on turn_of row_of wait_size payload_size target_at command_at is_whole unknown_opcode wrong_payload_bit no_such_slot header_fault frame_misaligned frame_unfit frame_fault held_fault is_rectangle size_of width_of height_of too_narrow end_of slot_fault misaligned unframed outside unfit_frame out_of_range unfit_dispatch check_of emits interrupts words_read leaves stop_outcome ran_outcome ran_as site_of dispatched_by after_dispatch held_by work_of or_else fault_of guarded performed_of after half_at word_at with_byte with_half with_word rectangle_end words_put pixels_put filled copied blitted window_of put_back kernel_count first_word kernel_words code_count lies_in_code all_below sound_pack kernel_of
+unfolding RoundTheWrap ReadyNoLonger first_outside bytes_of_words values_of colored fresh_device ring_of slot_of with_ring with_slots plus_one_at with_marker with_counts counted balanced window_fits memory_fits windows_fit ring_sound limit_fits state_sound ring_fits rings_fit verdict_of ready_with ready_where ready_at next_ring seek bytes_of_ring pick_of unchanged emit_to ring_after device_after report_of finished served_of picked_of judged_of verdict_on turn_of opcode_of row_of wait_size payload_size target_at command_at is_whole unknown_opcode wrong_payload_bit no_such_slot header_fault frame_misaligned frame_unfit frame_fault held_fault is_rectangle size_of width_of height_of too_narrow end_of slot_fault misaligned unframed outside unfit_frame out_of_range unfit_dispatch check_of emits interrupts words_read leaves stop_outcome ran_outcome ran_as site_of dispatched_by after_dispatch held_by work_by work_of or_else fault_of guarded performed_of after half_at word_at with_byte with_half with_word rectangle_end words_put pixels_put filled copied blitted window_of put_back kernel_count first_word kernel_words code_count lies_in_code all_below sound_pack kernel_of
 worked = (
   record {
     p1 = ((refl, refl), refl);

@@ -10,6 +10,7 @@ use native.Mathlib.Nat.{eq-or-lt_of_le, le_of_suc-le-suc, not-suc-le-zero}
 use lib.Dec.{eqb, ltb, lit<}
 use lib.ListN.{length, get_or, replicate, get_or-replicate, get_or-eq_default}
 use borrow.Author.Tests.{eqb-true, eqb-false, eq-eqb, ltb-true, ltb-false}
+use Rattle.std.specs.Prelude.{Ok, Some, sum}
 use Rattle.command.specs.declared.header.Command.{Command}
 use Rattle.command.specs.Report.{emits}
 use Rattle.command.specs.Header.{is_whole}
@@ -19,13 +20,11 @@ use Rattle.work.specs.declared.work.Performed.{Performed}
 use Rattle.state.specs.declared.device.Window.{Window}
 use Rattle.state.specs.declared.device.Device.{Device}
 use Rattle.state.specs.declared.edition.Start.{Start}
-use Rattle.state.specs.declared.refusal.Verdict.TheVariants.{Sound}
-use Rattle.state.specs.declared.ready.Picked.TheVariants.{Ring as RingOf}
 use Rattle.state.specs.Device.{Shaped, fresh_device, ring_of, slot_of, commands_of}
 use Rattle.state.specs.Edition.{edition_of, first_of}
 use Rattle.state.specs.Slots.{is_full, emitted}
 use Rattle.state.specs.PlusOne.{plus_one}
-use Rattle.state.specs.Counts.{counted, total}
+use Rattle.state.specs.Counts.{counted}
 use Rattle.state.proofs.Totals.{count_within, total-most}
 use Rattle.state.proofs.PlusOne.{total_changes}
 use Rattle.device.specs.Turn.{Call, unchanged, device_after, finished, served_of, verdict_on, pick_in}
@@ -56,7 +55,7 @@ pub record Took (chosen : Start) (R : ℕ → List ℕ) (d : Device) (t : ℕ �
   pub slots : (s : ℕ) → s < 64 → Holds chosen (slot_of d s) (count_of R t s)
   pub counts : (q : ℕ) → q < 4 → commands_of d q ≡ t q
   pub whole : (q : ℕ) → q < 4 → (n : ℕ) → n < t q → is_whole (R q) (place_of (R q) n) ≡ true
-  pub sums : total d.counts.outcomes ≡ total d.counts.commands
+  pub sums : sum d.counts.outcomes ≡ sum d.counts.commands
 
 -- a slot changes exactly where a command emits to it
 module _ (d : Device) (q : ℕ) (c : Command) (p : Performed) (shaped : Shaped d) (when : emits c p.outcome ≡ is_emitting c) (s : ℕ) where
@@ -77,7 +76,7 @@ module _ (d : Device) (q : ℕ) (c : Command) (p : Performed) (shaped : Shaped d
       go false e t same = stays e
 
 -- a ring holds at most 4,096 commands
-module _ (chosen : Start) (R : ℕ → List ℕ) (d : Device) (t : ℕ → ℕ) (took : Took chosen R d t) (call : Call) (sound : verdict_on d call ≡ Sound) where
+module _ (chosen : Start) (R : ℕ → List ℕ) (d : Device) (t : ℕ → ℕ) (took : Took chosen R d t) (call : Call) (sound : verdict_on d call ≡ Ok tt) where
   few : (q : ℕ) → q < 4 → t q ≤ 4096
   few q four = omega (arith, place-least (R q) (t q), took.cursors q four, (call_steady d call sound).cursors q four)
 
@@ -98,7 +97,7 @@ module _ (chosen : Start) (R : ℕ → List ℕ) (d : Device) (t : ℕ → ℕ) 
           rw (get_or-eq_default d.slots 0 past) (zero_free chosen)
 
   -- and no count goes round
-  few_in_all : total d.counts.commands ≤ 16384
+  few_in_all : sum d.counts.commands ≤ 16384
   unfolding commands_of
   few_in_all =
       let four = took.shaped.commands in
@@ -109,7 +108,7 @@ module _ (chosen : Start) (R : ℕ → List ℕ) (d : Device) (t : ℕ → ℕ) 
 module _ (chosen : Start) (R : ℕ → List ℕ) where
   -- a served ring has one more command taken
   module _ (d : Device) (t : ℕ → ℕ) (took : Took chosen R d t) (call : Call) (lends : Lends R call) (r : ℕ)
-      (sound : verdict_on d call ≡ Sound) (pick : pick_in d call ≡ RingOf r) where
+      (sound : verdict_on d call ≡ Ok tt) (pick : pick_in d call ≡ Some r) where
     ring_below : r < 4
     ring_below = (picked_servable d call r sound pick).number
 
@@ -166,7 +165,7 @@ module _ (chosen : Start) (R : ℕ → List ℕ) where
         go true e = let here = eqb-true q r e in rw here (own (rw (here, more-here t r) at below))
         go false e = took.whole q four n (rw (more_other t r q (eqb-false q r e)) at below)
 
-    next-sums : total (served_in d call r).turned.device.counts.outcomes ≡ total (served_in d call r).turned.device.counts.commands
+    next-sums : sum (served_in d call r).turned.device.counts.outcomes ≡ sum (served_in d call r).turned.device.counts.commands
     unfolding served_of finished counted commands_of
     next-sums =
         let p = (work_in d call r).performed in
@@ -223,17 +222,17 @@ zeros (suc k) zero = refl
 zeros (suc k) (suc n) = zeros k n
 
 -- a fresh device has taken nothing
-module _ (chosen : Start) (R : ℕ → List ℕ) (w0 w1 w2 w3 : Window) (limit : ℕ) where
-  fresh-slots : (s : ℕ) → s < 64 → Holds chosen (slot_of (fresh_device w0 w1 w2 w3 limit chosen) s) 0
+module _ (chosen : Start) (R : ℕ → List ℕ) (windows : List Window) (limit : ℕ) where
+  fresh-slots : (s : ℕ) → s < 64 → Holds chosen (slot_of (fresh_device windows limit chosen) s) 0
   unfolding fresh_device slot_of
   fresh-slots s below = rw (get_or-replicate 64 s (first_of chosen) 0 below) (holds_first chosen)
 
-  pub fresh_took : Took chosen R (fresh_device w0 w1 w2 w3 limit chosen) (λ q. 0)
-  unfolding fresh_device ring_of commands_of place_of emits_in sum_of total
+  pub fresh_took : Took chosen R (fresh_device windows limit chosen) (λ q. 0)
+  unfolding fresh_device ring_of commands_of place_of emits_in sum_of
   fresh_took = record {
-    shaped = fresh-shaped w0 w1 w2 w3 limit chosen;
+    shaped = fresh-shaped windows limit chosen;
     edition = refl;
-    cursors = each_of_four (λ q. (ring_of (fresh_device w0 w1 w2 w3 limit chosen) q).cursor ≡ 0) refl refl refl refl;
+    cursors = each_of_four (λ q. (ring_of (fresh_device windows limit chosen) q).cursor ≡ 0) refl refl refl refl;
     slots = fresh-slots;
     counts = λ q four. zeros 4 q;
     whole = λ q four n below. absurd (not-suc-le-zero below);

@@ -4,12 +4,11 @@ use mathlib.Core.Path.{◌≡◌, refl, sym, ap, ◌∙◌}
 use Prim.Native.Nat.{ℕ}
 use native.Mathlib.Omega.{arith}
 use mathlib.Core.Bool.{false}
+use Rattle.std.specs.Prelude.{Ok, Some}
 use Rattle.memory.specs.Window.{window_of}
 use Rattle.work.specs.Perform.{performed_of}
 use Rattle.work.specs.Work.{Left}
 use Rattle.state.specs.declared.device.Device.{Device}
-use Rattle.state.specs.declared.refusal.Verdict.TheVariants.{Sound}
-use Rattle.state.specs.declared.ready.Picked.TheVariants.{Ring as RingOf}
 use Rattle.device.specs.declared.turn.Report.{Report}
 use Rattle.device.specs.declared.turn.Answer.{Answer}
 use Rattle.device.specs.declared.turn.Answer.TheVariants.{Refused as RefusedFor, Idle, Served}
@@ -38,8 +37,8 @@ report_in d call q = report_of d q (head_in d call q) (work_in d call q).perform
 
 -- what is known of a turn that served a ring
 pub record WasServed (d : Device) (call : Call) (report : Report) : Type 0 where
-  pub sound : verdict_on d call ≡ Sound
-  pub pick : pick_in d call ≡ RingOf report.ring
+  pub sound : verdict_on d call ≡ Ok tt
+  pub pick : pick_in d call ≡ Some report.ring
   pub after : turn_of d call ≡ served_in d call report.ring
   pub told : report_in d call report.ring ≡ report
 
@@ -47,12 +46,12 @@ pub was_served : (d : Device) (call : Call) (report : Report) → answer_of d ca
 unfolding unchanged served_of finished report_of
 was_served d call report e =
     turn_cases d call (λ a. a ≡ turn_of d call → a.turned.answer ≡ Served report → WasServed d call report)
-    (λ why v same a. absurd (let z : ◌≡◌ {A = ℕ} 0 1 = cc in omega arith))
-    (λ sound p same a. absurd (let z : ◌≡◌ {A = ℕ} 0 1 = cc in omega arith))
+    (λ why v same a. absurd (grind arith))
+    (λ sound p same a. absurd (grind arith))
     (λ q sound p same a.
     let told : report_in d call q ≡ report = ap (told_by report) a in
     let ring : q ≡ report.ring = ap (λ r. r.ring) told in
-    record { sound = sound; pick = p ∙ ap RingOf ring; after = sym same ∙ ap (served_in d call) ring; told = rw ring at told })
+    record { sound = sound; pick = p ∙ ap Some ring; after = sym same ∙ ap (served_in d call) ring; told = rw ring at told })
     refl e
 
 -- and of a turn whose number is 0

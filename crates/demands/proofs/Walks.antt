@@ -6,7 +6,7 @@ use Prim.Native.Nat.{ℕ, zero, suc, ◌≤◌, ◌<◌}
 use native.Mathlib.Nat.{not-suc-le-zero, le_of_suc-le-suc}
 use native.Mathlib.Omega.{arith}
 use lib.Dec.{lit<}
-use Rattle.state.specs.declared.ready.Picked.TheVariants.{Ring}
+use Rattle.std.specs.Prelude.{Some}
 use Rattle.state.specs.Ready.{next_ring, seek}
 use Rattle.device.proofs.Verdicts.{each_of_four}
 
@@ -28,14 +28,14 @@ walk_rest zero (suc j) m h = (j, omega arith, refl)
 walk_rest (suc i) (suc j) m h = let r = walk_rest i j (next_ring m) (le_of_suc-le-suc h) in (r.0, omega arith, r.2)
 
 -- a ready ring on the way: the search stops there or before
-pub seek_reaches : (f : ℕ → Bool) (n j m : ℕ) → j < n → f (walk j m) ≡ true → (i : ℕ) × (i ≤ j) × (seek f m n ≡ Ring (walk i m))
+pub seek_reaches : (f : ℕ → Bool) (n j m : ℕ) → j < n → f (walk j m) ≡ true → (i : ℕ) × (i ≤ j) × (seek f m n ≡ Some (walk i m))
 unfolding walk seek
 seek_reaches f zero j m h e = absurd (not-suc-le-zero h)
 seek_reaches f (suc n) zero m h e = (zero, omega arith, rw e)
 seek_reaches f (suc n) (suc j) m h e = step (f m) refl (seek_reaches f n j (next_ring m) (le_of_suc-le-suc h) e)
   where
-    step : (b : Bool) → f m ≡ b → (i : ℕ) × (i ≤ j) × (seek f (next_ring m) n ≡ Ring (walk i (next_ring m)))
-        → (i : ℕ) × (i ≤ suc j) × (cond (f m) (Ring m) (seek f (next_ring m) n) ≡ Ring (walk i m))
+    step : (b : Bool) → f m ≡ b → (i : ℕ) × (i ≤ j) × (seek f (next_ring m) n ≡ Some (walk i (next_ring m)))
+        → (i : ℕ) × (i ≤ suc j) × (cond (f m) (Some m) (seek f (next_ring m) n) ≡ Some (walk i m))
     step true here r = (zero, omega arith, rw here)
     step false on r = (suc r.0, omega arith, rw on r.2)
 

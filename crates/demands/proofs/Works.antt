@@ -8,19 +8,22 @@ use Prim.Native.Nat.{ℕ, ◌+◌, ◌*◌, ◌≤◌}
 use native.Mathlib.Omega.{arith}
 use lib.ListN.{length, get_or}
 use lib.Dec.{eqb}
-use borrow.Author.Tests.{eqb-true, eqb-false}
+use borrow.Author.Tests.{eqb-true}
 use Rattle.memory.proofs.Others.{transferred_other}
 use Rattle.command.specs.declared.header.Command.{Command}
 use Rattle.command.specs.declared.frame.Frame.{Frame}
-use Rattle.command.specs.declared.outcome.Outcome.{Outcome}
 use Rattle.command.specs.Flags.{emit_bit}
 use Rattle.command.specs.Faults.{header_fault}
 use Rattle.work.specs.Checks.{slot_fault}
-use Rattle.command.specs.Outcome.{outcome_number, is_done}
-use Rattle.command.specs.Opcode.{read_mem}
+use Rattle.command.specs.Outcome.{Outcome, done, outcome_number, is_done}
+use Rattle.command.specs.declared.outcome.Fault.TheVariants.{SlotFull}
+use Rattle.std.proofs.Common.{Option, Some, Err}
+use Rattle.command.specs.Frame.{held_by}
+use Rattle.command.proofs.Outcomes.{number_done}
+use Rattle.command.specs.declared.opcode.Opcode.TheVariants.{ReadMem}
 use Rattle.command.specs.Report.{emits, words_read}
-use Rattle.work.specs.Work.{Left, leaves, ran_as, after_dispatch, dispatched_by, held_by}
-use Rattle.work.specs.Perform.{performed_of}
+use Rattle.work.specs.Work.{Left, leaves, ran_as, after_dispatch, dispatched_by}
+use Rattle.work.specs.Perform.{fault_of, performed_of}
 use Rattle.words.proofs.Choices.{both_left, both_right}
 use Rattle.work.proofs.Performs.{performed_has}
 use Rattle.work.proofs.Works.{work_has, work_set}
@@ -51,7 +54,7 @@ unfolding slot_fault
 full_faulty c full bit is = rw (bit, is)
 
 -- any other slot is not
-not_full : (b : Bool) → is_done (cond (b && false) Outcome.SlotFull Outcome.Done) ≡ true
+not_full : (b : Bool) → is_done (cond (b && false) (Err SlotFull) done) ≡ true
 not_full true = refl
 not_full false = refl
 
@@ -60,10 +63,10 @@ slot_full : (c : Command) (full : Bool) → is_done (slot_fault c full) ≡ fals
 unfolding slot_fault
 slot_full c full = go (emit_bit c.flags) full
   where
-    go : (bit full : Bool) → is_done (cond (bit && full) Outcome.SlotFull Outcome.Done) ≡ false → (bit ≡ true) × (full ≡ true)
+    go : (bit full : Bool) → is_done (cond (bit && full) (Err SlotFull) done) ≡ false → (bit ≡ true) × (full ≡ true)
     go true true e = (refl, refl)
-    go true false e = absurd (let z : ◌≡◌ {A = ℕ} 0 1 = cc in omega arith)
-    go false full e = absurd (let z : ◌≡◌ {A = ℕ} 0 1 = cc in omega arith)
+    go true false e = absurd (grind arith)
+    go false full e = absurd (grind arith)
 
 free_fine : (c : Command) (full : Bool) → full ≡ false → is_done (slot_fault c full) ≡ true
 unfolding slot_fault
@@ -74,11 +77,11 @@ and_true true = refl
 and_true false = refl
 
 -- what a READ_MEM reads
-read_words : (c : Command) → c.opcode ≡ read_mem → words_read c Outcome.Done ≡ c.len
+read_words : (c : Command) → c.opcode ≡ Some ReadMem → words_read c done ≡ c.len
 unfolding words_read
 read_words c e = rw e
 
-module _ (c : Command) (full : Bool) (ring window : List ℕ) (frame : Frame) (pack pipe : List ℕ) (limit : ℕ) where
+module _ (c : Command) (full : Bool) (ring window : List ℕ) (frame : Option Frame) (pack pipe : List ℕ) (limit : ℕ) where
   abbrev work : Left
   work = performed_of c full ring window frame pack pipe limit
 
@@ -139,7 +142,7 @@ module _ (c : Command) (full : Bool) (ring window : List ℕ) (frame : Frame) (p
   abbrev Rest : Left → Type 0
   Rest l = (i : ℕ) → 4 * words_read c l.performed.outcome ≤ i → get_or l.pipe i 0 ≡ get_or pipe i 0
 
-  read_end : c.opcode ≡ read_mem → (i : ℕ) → 4 * words_read c Outcome.Done ≤ i → 0 + 4 * c.len ≤ i
+  read_end : c.opcode ≡ Some ReadMem → (i : ℕ) → 4 * words_read c done ≤ i → 0 + 4 * c.len ≤ i
   read_end e i h = omega (arith, read_words c e)
 
   pub pipe_stays : PipeKept (words_read c outcome) pipe work.pipe
@@ -162,13 +165,13 @@ module _ (c : Command) (full : Bool) (ring window : List ℕ) (frame : Frame) (p
   }
 
   -- a SET_FB with outcome 0 leaves the frame of its arguments
-  pub frame-set : SetsFrame c (outcome_number outcome) → work.performed.frame ≡ held_by c
+  pub frame-set : SetsFrame c (outcome_number outcome) → work.performed.frame ≡ Some (held_by c)
   unfolding leaves
   frame-set sets =
       performed_has c full ring window frame pack pipe limit
-      (λ l. outcome_number l.performed.outcome ≡ 0 → l.performed.frame ≡ held_by c)
-      (λ fine done. rw (work_set c ring window frame pack pipe limit sets.0))
-      (λ faulty done. absurd (eqb-false _ _ faulty done))
+      (λ l. outcome_number l.performed.outcome ≡ 0 → l.performed.frame ≡ Some (held_by c))
+      (λ fine zero. rw (work_set c ring window frame pack pipe limit sets.0))
+      (λ faulty zero. cc (number_done (fault_of c full (length window) frame pack) zero))
       sets.1
 
   -- every other command leaves the frame as it was

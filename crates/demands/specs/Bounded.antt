@@ -48,6 +48,6 @@ IdleInTime = (d : Device) → Shaped d → IdleInTimeFrom d
 -- from fresh, the bytes not yet taken are those of the four rings
 unfoldable pub FreshIdleInTime : Type 0
 FreshIdleInTime =
-    (w0 w1 w2 w3 : Window) (limit : ℕ) (chosen : Start) (R : ℕ → List ℕ) (calls : List Call)
-    → EachHeard (Lends R) (fresh_device w0 w1 w2 w3 limit chosen) calls
-    → sum_of 4 (λ q. length (R q)) < 16 * heard (fresh_device w0 w1 w2 w3 limit chosen) calls → SaysIdle (fresh_device w0 w1 w2 w3 limit chosen) calls
+    (windows : List Window) (limit : ℕ) (chosen : Start) (R : ℕ → List ℕ) (calls : List Call)
+    → EachHeard (Lends R) (fresh_device windows limit chosen) calls
+    → sum_of 4 (λ q. length (R q)) < 16 * heard (fresh_device windows limit chosen) calls → SaysIdle (fresh_device windows limit chosen) calls

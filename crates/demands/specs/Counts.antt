@@ -1,10 +1,9 @@
 -- Demand 2: what the counts tell, over any calls, and from a fresh device over unchanging rings.
-use Rattle.std.specs.Prelude.{ℕ, ◌+◌, ◌%◌, ◌^◌, ◌<◌, ◌≡◌, true, List}
+use Rattle.std.specs.Prelude.{ℕ, ◌+◌, ◌%◌, ◌^◌, ◌<◌, ◌≡◌, true, List, sum}
 use Rattle.command.specs.Header.{is_whole}
 use Rattle.state.specs.declared.device.Window.{Window}
 use Rattle.state.specs.declared.device.Device.{Device}
 use Rattle.state.specs.declared.edition.Start.{Start}
-use Rattle.state.specs.Counts.{total}
 use Rattle.state.specs.Device.{Shaped, CountsFit, fresh_device, ring_of, commands_of, outcomes_of}
 use Rattle.device.specs.Turn.{Call}
 use Rattle.demands.specs.Calls.{last_of, served_with_in, EachHeard}
@@ -31,11 +30,11 @@ pub record CountsTell (R : ℕ → List ℕ) (d : Device) : Type 0 where
   -- each of which is whole
   pub whole : (q : ℕ) → q < 4 → (n : ℕ) → n < commands_of d q → is_whole (R q) (place_of (R q) n) ≡ true
   -- and the outcomes' counts sum to the rings', with no modulus
-  pub sums : total d.counts.outcomes ≡ total d.counts.commands
+  pub sums : sum d.counts.outcomes ≡ sum d.counts.commands
 
 -- so after any calls from fresh of which those that are not refused lend R
 unfoldable pub FreshCounts : Type 0
 FreshCounts =
-    (w0 w1 w2 w3 : Window) (limit : ℕ) (chosen : Start) (R : ℕ → List ℕ) (calls : List Call)
-    → EachHeard (Lends R) (fresh_device w0 w1 w2 w3 limit chosen) calls
-    → CountsTell R (last_of (fresh_device w0 w1 w2 w3 limit chosen) calls)
+    (windows : List Window) (limit : ℕ) (chosen : Start) (R : ℕ → List ℕ) (calls : List Call)
+    → EachHeard (Lends R) (fresh_device windows limit chosen) calls
+    → CountsTell R (last_of (fresh_device windows limit chosen) calls)

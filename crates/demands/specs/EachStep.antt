@@ -1,12 +1,11 @@
 -- Demand 2, down to each step: a dispatch that is served is its threads in order, each its steps in order, each
 -- step the instruction's rule.
-use Rattle.std.specs.Prelude.{ℕ, suc, ◌+◌, ◌*◌, ◌^◌, ◌≤◌, ◌<◌, ◌≡◌, true, false, List, ◌↔◌, length}
+use Rattle.std.specs.Prelude.{ℕ, suc, ◌+◌, ◌*◌, ◌^◌, ◌≤◌, ◌<◌, ◌≡◌, true, false, List, ◌↔◌, length, Some, Err}
 use Rattle.words.specs.Arithmetic.{sum}
 use Rattle.memory.specs.declared.access.Width.{Width}
 use Rattle.memory.specs.declared.quad.Quad.{Quad}
-use Rattle.memory.specs.declared.address.Reach.TheVariants.{Outside}
 use Rattle.memory.specs.Access.{bytes_of}
-use Rattle.memory.specs.Address.{reach_of}
+use Rattle.memory.specs.Address.{outside_at, reach_of}
 use Rattle.memory.specs.Window.{window_of, put_back}
 use Rattle.instruction.specs.declared.list.Instr.{Instr}
 use Rattle.instruction.specs.declared.list.Op.TheVariants.{Load, Vld, Wfi, Unlisted}
@@ -19,7 +18,6 @@ use Rattle.kernel.specs.declared.step.Stop.TheVariants.{NotListed, OffTheKernel,
 use Rattle.kernel.specs.declared.thread.Thread.{Thread}
 use Rattle.kernel.specs.declared.step.Progress.TheVariants.{Running, Ended, Stopped}
 use Rattle.kernel.specs.declared.dispatch.ThreadStop.{ThreadStop}
-use Rattle.kernel.specs.declared.dispatch.Ran.TheVariants.{Stopped as StoppedFor}
 use Rattle.pack.specs.Kernels.{kernel_of, code_word}
 use Rattle.kernel.specs.Registers.{scalar_of}
 use Rattle.kernel.specs.Thread.{started}
@@ -27,7 +25,7 @@ use Rattle.kernel.specs.Step.{stopped_as, ends_thread, lands, applied, executed,
 use Rattle.kernel.specs.Run.{running, steps_of, run_of}
 use Rattle.kernel.specs.Dispatch.{Dispatched, shown, going, thread_of, threads_of}
 use Rattle.kernel.specs.Site.{site_of}
-use Rattle.command.specs.Opcode.{dispatch_1d}
+use Rattle.command.specs.declared.opcode.Opcode.TheVariants.{Dispatch1d}
 use Rattle.command.specs.Outcome.{outcome_number, is_done}
 use Rattle.work.specs.Work.{ran_outcome}
 use Rattle.work.specs.Perform.{fault_of}
@@ -44,7 +42,7 @@ window_in d call q = window_of (ring_of d q).window.start (ring_of d q).window.l
 
 -- ring q's head command is a DISPATCH_1D with no fault
 pub record Dispatches (d : Device) (call : Call) (q : ℕ) : Type 0 where
-  pub opcode : (head_in d call q).opcode ≡ dispatch_1d
+  pub opcode : (head_in d call q).opcode ≡ Some Dispatch1d
   pub no_fault : is_done (fault_of (head_in d call q) (is_full d.edition (slot_of d (head_in d call q).rdst)) (length (window_in d call q)) (ring_of d q).frame call.pack) ≡ true
 
 -- its kernel, number arg2 of the pack
@@ -76,7 +74,7 @@ pub record ThreadsInOrder (limit : ℕ) (pack : List ℕ) (kernel : Kernel) (gro
   pub next : (n : ℕ) (window' : List ℕ) → threads_of n limit pack kernel groups threads window ≡ going window'
       → threads_of (suc n) limit pack kernel groups threads window ≡ thread_of limit pack kernel groups threads n window'
   -- a stop ends the whole dispatch
-  pub stop : (n : ℕ) (stop : ThreadStop) → (threads_of n limit pack kernel groups threads window).ran ≡ StoppedFor stop
+  pub stop : (n : ℕ) (stop : ThreadStop) → (threads_of n limit pack kernel groups threads window).ran ≡ Err stop
       → threads_of (suc n) limit pack kernel groups threads window ≡ threads_of n limit pack kernel groups threads window
   -- thread j of group g is number g · threads + j, and its result is its run's; a stop is told with its place, g and j
   pub number : (g j : ℕ) (window' : List ℕ) → j < threads
@@ -119,14 +117,14 @@ pub record StepByRule (limit : ℕ) (pack : List ℕ) (kernel : Kernel) (t : Thr
   pub branch : (rd offset : ℕ) → lands kernel.length (sum 32 t.place offset) ≡ false
       → applied kernel.length rd (Go offset) t window ≡ stopped_as OffTheKernel t window
   -- a store not wholly in the window: the test's address is passed on
-  pub store : (rd : ℕ) (width : Width) (a x first : ℕ) → reach_of (length window) a (bytes_of width) ≡ Outside first
+  pub store : (rd : ℕ) (width : Width) (a x first : ℕ) → reach_of (length window) a (bytes_of width) ≡ Err (outside_at first)
       → applied kernel.length rd (Store width a x) t window ≡ stopped_as (OutsideTheWindow first) t window
-  pub store_quad : (rd a : ℕ) (q : Quad) (first : ℕ) → reach_of (length window) a 16 ≡ Outside first
+  pub store_quad : (rd a : ℕ) (q : Quad) (first : ℕ) → reach_of (length window) a 16 ≡ Err (outside_at first)
       → applied kernel.length rd (StoreQuad a q) t window ≡ stopped_as (OutsideTheWindow first) t window
   -- a load not wholly in the window
-  pub load : (rd : ℕ) (width : Width) (imm x y first : ℕ) (vectors : List ℕ) → reach_of (length window) (sum 32 x imm) (bytes_of width) ≡ Outside first
+  pub load : (rd : ℕ) (width : Width) (imm x y first : ℕ) (vectors : List Quad) → reach_of (length window) (sum 32 x imm) (bytes_of width) ≡ Err (outside_at first)
       → applied kernel.length rd (effect_of (Load width imm) x y vectors window) t window ≡ stopped_as (OutsideTheWindow first) t window
-  pub load_quad : (rd vd x y first : ℕ) (vectors : List ℕ) → reach_of (length window) x 16 ≡ Outside first
+  pub load_quad : (rd vd x y first : ℕ) (vectors : List Quad) → reach_of (length window) x 16 ≡ Err (outside_at first)
       → applied kernel.length rd (effect_of (Vld vd) x y vectors window) t window ≡ stopped_as (OutsideTheWindow first) t window
   -- and an address is told of these alone, the first that they reached outside
   pub only_outside : (first : ℕ) → length window < 2 ^ 32 → (step_of limit pack kernel t window).stepped.progress ≡ Stopped (OutsideTheWindow first)

@@ -47,6 +47,6 @@ FourTurnsOver R d =
 -- in either edition, from every state that a fresh device reaches by calls over R, whose targets are near the starting number
 unfoldable pub FreshFourTurns : Type 0
 FreshFourTurns =
-    (w0 w1 w2 w3 : Window) (limit : ℕ) (chosen : Start) (R : ℕ → List ℕ) (before : List Call) → TargetsNear chosen R
-    → EachHeard (Lends R) (fresh_device w0 w1 w2 w3 limit chosen) before
-    → FourTurnsOver R (last_of (fresh_device w0 w1 w2 w3 limit chosen) before)
+    (windows : List Window) (limit : ℕ) (chosen : Start) (R : ℕ → List ℕ) (before : List Call) → TargetsNear chosen R
+    → EachHeard (Lends R) (fresh_device windows limit chosen) before
+    → FourTurnsOver R (last_of (fresh_device windows limit chosen) before)

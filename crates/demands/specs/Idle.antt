@@ -40,7 +40,7 @@ pub data Order (chosen : Start) (R : ℕ → List ℕ) : (ℕ → ℕ) → Type 
 -- rings only edition 2 asks something, that their targets are near the starting number
 unfoldable pub IdleIsDone : Type 0
 IdleIsDone =
-    (w0 w1 w2 w3 : Window) (limit : ℕ) (chosen : Start) (R : ℕ → List ℕ) (calls : List Call) (last : Call) → TargetsNear chosen R
-    → EachHeard (Lends R) (fresh_device w0 w1 w2 w3 limit chosen) calls → Lends R last
-    → number_in (last_of (fresh_device w0 w1 w2 w3 limit chosen) calls) last ≡ 1
-    → (n : ℕ → ℕ) → Order chosen R n → (q : ℕ) → n q ≤ taken (fresh_device w0 w1 w2 w3 limit chosen) calls q
+    (windows : List Window) (limit : ℕ) (chosen : Start) (R : ℕ → List ℕ) (calls : List Call) (last : Call) → TargetsNear chosen R
+    → EachHeard (Lends R) (fresh_device windows limit chosen) calls → Lends R last
+    → number_in (last_of (fresh_device windows limit chosen) calls) last ≡ 1
+    → (n : ℕ → ℕ) → Order chosen R n → (q : ℕ) → n q ≤ taken (fresh_device windows limit chosen) calls q

@@ -1,7 +1,7 @@
 -- No second answer: any two results, with the slices they leave, that meet a contract are equal.
-use Rattle.std.specs.Prelude.{◌≡◌, List, ℕ}
+use Rattle.std.specs.Prelude.{◌≡◌, List, ℕ, Result}
 use Rattle.kernel.specs.declared.step.Stepped.{Stepped}
-use Rattle.kernel.specs.declared.dispatch.Ran.{Ran}
+use Rattle.kernel.specs.declared.dispatch.ThreadStop.{ThreadStop}
 use Rattle.kernel.specs.Step.{State, Shows as ShowsStep}
 use Rattle.kernel.specs.Dispatch.{Dispatched, ShowsRan}
 use Rattle.work.specs.declared.work.Performed.{Performed}
@@ -17,7 +17,7 @@ pub record OneAnswer : Type 1 where
   -- of a step and a run
   pub step : (s : State) (r₁ r₂ : Stepped) (m₁ m₂ : List ℕ) → ShowsStep r₁ m₁ s → ShowsStep r₂ m₂ s → (r₁ ≡ r₂) × (m₁ ≡ m₂)
   -- of a dispatch
-  pub dispatch : (d : Dispatched) (r₁ r₂ : Ran) (m₁ m₂ : List ℕ) → ShowsRan r₁ m₁ d → ShowsRan r₂ m₂ d → (r₁ ≡ r₂) × (m₁ ≡ m₂)
+  pub dispatch : (d : Dispatched) (r₁ r₂ : Result Unit ThreadStop) (m₁ m₂ : List ℕ) → ShowsRan r₁ m₁ d → ShowsRan r₂ m₂ d → (r₁ ≡ r₂) × (m₁ ≡ m₂)
   -- of a command's work
   pub command : (l : Left) (r₁ r₂ : Performed) (m₁ m₂ p₁ p₂ : List ℕ) → ShowsWork r₁ m₁ p₁ l → ShowsWork r₂ m₂ p₂ l
       → (r₁ ≡ r₂) × (m₁ ≡ m₂) × (p₁ ≡ p₂)

@@ -1,10 +1,10 @@
 -- Demand 2: what is reported of a served command, and what it changes in the device.
-use Rattle.std.specs.Prelude.{ℕ, ◌+◌, ◌≤◌, ◌<◌, ◌≡◌, true, ◌⊎◌, ◌↔◌}
+use Rattle.std.specs.Prelude.{ℕ, ◌+◌, ◌≤◌, ◌<◌, ◌≡◌, true, ◌⊎◌, ◌↔◌, Some}
 use Rattle.command.specs.declared.header.Command.{Command}
 use Rattle.command.specs.Flags.{irq_bit, emit_bit}
-use Rattle.command.specs.Opcode.{read_mem, set_fb}
+use Rattle.command.specs.declared.opcode.Opcode.TheVariants.{ReadMem, SetFb}
 use Rattle.kernel.specs.Site.{no_site}
-use Rattle.work.specs.Work.{held_by}
+use Rattle.command.specs.Frame.{held_by}
 use Rattle.state.specs.declared.device.Device.{Device}
 use Rattle.state.specs.Device.{Shaped, SlotsFit, ring_of, slot_of}
 use Rattle.state.specs.PlusOne.{plus_one}
@@ -24,11 +24,11 @@ Interrupts c outcome = (irq_bit c.flags ≡ true) × ((outcome ≡ 0) ⊎ (4 < o
 
 -- a READ_MEM with outcome 0
 abbrev pub Reads : Command → ℕ → Type 0
-Reads c outcome = (c.opcode ≡ read_mem) × (outcome ≡ 0)
+Reads c outcome = (c.opcode ≡ Some ReadMem) × (outcome ≡ 0)
 
 -- a SET_FB with outcome 0
 abbrev pub SetsFrame : Command → ℕ → Type 0
-SetsFrame c outcome = (c.opcode ≡ set_fb) × (outcome ≡ 0)
+SetsFrame c outcome = (c.opcode ≡ Some SetFb) × (outcome ≡ 0)
 
 -- these values are reported of command c of ring q, and the device is left so
 pub record Reported (d : Device) (q : ℕ) (c : Command) (v : Values) (after : Device) : Type 0 where
@@ -53,7 +53,7 @@ pub record Reported (d : Device) (q : ℕ) (c : Command) (v : Values) (after : D
   pub cursor : (ring_of after q).cursor ≡ (ring_of d q).cursor + c.size
   pub window : (ring_of after q).window ≡ (ring_of d q).window
   -- a SET_FB with outcome 0 leaves the ring the frame of its arguments; every other command leaves the frame as it was
-  pub frame-set : SetsFrame c v.outcome → (ring_of after q).frame ≡ held_by c
+  pub frame-set : SetsFrame c v.outcome → (ring_of after q).frame ≡ Some (held_by c)
   pub frame : (SetsFrame c v.outcome → ⊥) → (ring_of after q).frame ≡ (ring_of d q).frame
   -- the other rings stay
   pub other_rings : (n : ℕ) → (n ≡ q → ⊥) → ring_of after n ≡ ring_of d n

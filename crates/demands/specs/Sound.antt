@@ -1,10 +1,10 @@
 -- Demand 1: a device stays sound, so a call on its own memory is refused only for what it lends.
-use Rattle.std.specs.Prelude.{ℕ, ◌%◌, ◌^◌, ◌≤◌, ◌<◌, ◌≡◌, Bool, true, false, List, ◌⊎◌, length}
+use Rattle.std.specs.Prelude.{ℕ, ◌%◌, ◌^◌, ◌≤◌, ◌<◌, ◌≡◌, Bool, true, false, List, ◌⊎◌, length, sum}
 use Rattle.pack.specs.Kernels.{sound_pack}
 use Rattle.state.specs.declared.device.Window.{Window}
 use Rattle.state.specs.declared.device.Device.{Device}
 use Rattle.state.specs.declared.edition.Start.{Start}
-use Rattle.state.specs.Counts.{total, balanced}
+use Rattle.state.specs.Counts.{balanced}
 use Rattle.state.specs.Device.{Shaped, ring_of}
 use Rattle.device.specs.Answer.{making_number}
 use Rattle.state.specs.Refusal.{windows_fit, state_sound, rings_fit}
@@ -26,7 +26,7 @@ pub record StaysSound (d : Device) (call : Call) : Type 0 where
   pub limit_102 : windows_fit d (length call.memory) ≡ true → (d.limit ≡ 0) ⊎ (65536 < d.limit) → number_in d call ≡ 102
   -- or if the sum of the four counts and the sum of the fifteen differ modulo 4,294,967,296
   pub counts_102 : windows_fit d (length call.memory) ≡ true
-      → (total d.counts.commands % 2 ^ 32 ≡ total d.counts.outcomes % 2 ^ 32 → ⊥) → number_in d call ≡ 102
+      → (sum d.counts.commands % 2 ^ 32 ≡ sum d.counts.outcomes % 2 ^ 32 → ⊥) → number_in d call ≡ 102
 
 unfoldable pub TurnStaysSound : Type 0
 TurnStaysSound = (d : Device) (call : Call) → StaysSound d call
@@ -61,17 +61,17 @@ SoundRefusals =
     (d : Device) (call : Call) → state_sound d ≡ true → windows_fit d (length call.memory) ≡ true → RefusedForLent d call
 
 -- making a device over a memory of `memory` bytes, with a limit and a start named
-pub record MakesSound (memory : ℕ) (w0 w1 w2 w3 : Window) (limit : ℕ) (chosen : Start) : Type 0 where
+pub record MakesSound (memory : ℕ) (windows : List Window) (limit : ℕ) (chosen : Start) : Type 0 where
   -- made or refused, its state is sound
-  pub state : state_sound (fresh_with memory w0 w1 w2 w3 limit chosen).device ≡ true
+  pub state : state_sound (fresh_with memory windows limit chosen).device ≡ true
   -- made, its windows fit the memory
-  pub windows : making_number (fresh_with memory w0 w1 w2 w3 limit chosen).answer ≡ 0 → windows_fit (fresh_with memory w0 w1 w2 w3 limit chosen).device memory ≡ true
+  pub fits : making_number (fresh_with memory windows limit chosen).answer ≡ 0 → windows_fit (fresh_with memory windows limit chosen).device memory ≡ true
   -- refused, they are empty and fit every memory that is not too long
-  pub empty : 101 ≤ making_number (fresh_with memory w0 w1 w2 w3 limit chosen).answer → (n : ℕ) → n ≤ 1048576 → windows_fit (fresh_with memory w0 w1 w2 w3 limit chosen).device n ≡ true
+  pub empty : 101 ≤ making_number (fresh_with memory windows limit chosen).answer → (n : ℕ) → n ≤ 1048576 → windows_fit (fresh_with memory windows limit chosen).device n ≡ true
 
 -- with any limit and start named; where neither is, the limit is 16,384 and the edition 1
 unfoldable pub FreshMakesSound : Type 0
-FreshMakesSound = (memory : ℕ) (w0 w1 w2 w3 : Window) (limit : ℕ) (chosen : Start) → MakesSound memory w0 w1 w2 w3 limit chosen
+FreshMakesSound = (memory : ℕ) (windows : List Window) (limit : ℕ) (chosen : Start) → MakesSound memory windows limit chosen
 
 -- a call over a device that was handed back: it is not refused as 102, and on `memory` bytes only for what it lends
 pub record HandedBack (memory : ℕ) (d : Device) (call : Call) : Type 0 where
@@ -90,5 +90,5 @@ CallsStaySound = (d : Device) → Shaped d → StaySoundFrom d
 -- and from a made device, with the memory's length that it was made for
 unfoldable pub FreshStaysSound : Type 0
 FreshStaysSound =
-    (memory : ℕ) (w0 w1 w2 w3 : Window) (limit : ℕ) (chosen : Start) (calls : List Call) → making_number (fresh_with memory w0 w1 w2 w3 limit chosen).answer ≡ 0
-    → EachCall (HandedBack memory) (fresh_with memory w0 w1 w2 w3 limit chosen).device calls
+    (memory : ℕ) (windows : List Window) (limit : ℕ) (chosen : Start) (calls : List Call) → making_number (fresh_with memory windows limit chosen).answer ≡ 0
+    → EachCall (HandedBack memory) (fresh_with memory windows limit chosen).device calls

@@ -16,12 +16,12 @@ use Rattle.kernel.specs.Thread.{started}
 use Rattle.kernel.specs.Step.{stopped_as, step_of}
 use Rattle.kernel.specs.Run.{running, steps_of}
 use Rattle.kernel.specs.Dispatch.{going, threads_of}
-use Rattle.command.specs.Outcome.{outcome_number}
+use Rattle.command.specs.Outcome.{fault_number}
 use Rattle.work.specs.Work.{stop_outcome}
 
 -- the number of the outcome that a stop gives
 abbrev pub stop_number : Stop → ℕ
-stop_number why = outcome_number (stop_outcome why)
+stop_number why = fault_number (stop_outcome why)
 
 -- an instruction whose rs1 holds x loads or stores `count` bytes from `address` on; the address wraps to 32 bits
 abbrev pub Accesses : Op → ℕ → ℕ → ℕ → Type 0

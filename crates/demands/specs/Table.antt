@@ -1,5 +1,5 @@
 -- The examples that were worked by hand, as whole calls and as steps of a thread.
-use Rattle.std.specs.Prelude.{ℕ, ◌+◌, ◌*◌, ◌^◌, ◌≤◌, ◌<◌, ◌≡◌, Bool, true, false, List, [], ◌∷◌, ◌++◌, length, replicate}
+use Rattle.std.specs.Prelude.{ℕ, ◌+◌, ◌*◌, ◌^◌, ◌≤◌, ◌<◌, ◌≡◌, Bool, true, false, List, [], ◌∷◌, ◌++◌, length, replicate, Some}
 use Rattle.memory.specs.declared.quad.Quad.{Quad}
 use Rattle.memory.specs.Place.{with_word}
 use Rattle.instruction.specs.declared.list.Op.TheVariants.{Unary}
@@ -12,14 +12,13 @@ use Rattle.kernel.specs.declared.site.Site.{Site}
 use Rattle.kernel.specs.Dispatch.{Dispatched, dispatch_of}
 use Rattle.kernel.specs.Site.{site_at, no_site, site_of}
 use Rattle.kernel.specs.Examples.{fresh_thread, after_word, scalar, word_bytes, bytes_of_words, pack_of_words, pack_of}
-use Rattle.command.specs.declared.frame.Frame.TheVariants.{Held}
 use Rattle.command.specs.Outcome.{outcome_number}
 use Rattle.work.specs.Work.{ran_outcome}
 use Rattle.state.specs.declared.device.Device.{Device}
 use Rattle.state.specs.declared.edition.Edition.TheVariants.{One}
 use Rattle.state.specs.declared.edition.Start.TheVariants.{Edition2}
 use Rattle.state.specs.Counts.{no_counts}
-use Rattle.state.specs.Device.{empty_window, fresh_ring, device_of, default_limit, fresh_device}
+use Rattle.state.specs.Device.{empty_window, empty_windows, fresh_ring, device_of, default_limit, fresh_device}
 use Rattle.state.specs.Ready.{ready_at}
 use Rattle.device.specs.Answer.{answer_number, no_values, values_of}
 use Rattle.device.specs.Turn.{Call, call_of, TurnEnd, turn_of}
@@ -33,7 +32,7 @@ header opcode flags rdst len arg0 arg1 arg2 = opcode ∷ flags ∷ rdst ∷ len 
 abbrev pub framed_under : ℕ → ℕ → ℕ → Device
 framed_under limit n m =
     device_of
-    (record { window = record { start = 0; length = n }; cursor = 0; frame = Held 0 16 0 }
+    (record { window = record { start = 0; length = n }; cursor = 0; frame = Some (record { base = 0; stride = 16; format = 0 }) }
     ∷ fresh_ring empty_window ∷ fresh_ring empty_window ∷ fresh_ring empty_window ∷ [])
     (replicate 64 0) m limit no_counts One
 
@@ -240,7 +239,7 @@ pub record Scrolled : Type 0 where
 unfoldable pub RoundTheWrap : Type 0
 RoundTheWrap =
     let call = lent 0 (emit_to 5 ++ emit_to 5 ++ emit_to 5) (wait_for 5) [] [] in
-    let t1 = turn_of (fresh_device empty_window empty_window empty_window empty_window default_limit (Edition2 4294967294)) call in
+    let t1 = turn_of (fresh_device empty_windows default_limit (Edition2 4294967294)) call in
     let t2 = turn_of t1.turned.device call in
     let t3 = turn_of t2.turned.device call in
     let t4 = turn_of t3.turned.device call in
@@ -252,6 +251,6 @@ RoundTheWrap =
 unfoldable pub ReadyNoLonger : Type 0
 ReadyNoLonger =
     let call = lent 0 (emit_to 5) (wait_for 5) [] [] in
-    let fresh = fresh_device empty_window empty_window empty_window empty_window default_limit (Edition2 2147483648) in
+    let fresh = fresh_device empty_windows default_limit (Edition2 2147483648) in
     let t1 = turn_of fresh call in
     (ready_at fresh 1 (wait_for 5) ≡ true) × ServedAs 0 0 2147483649 true t1 × IdleTurn (turn_of t1.turned.device call)

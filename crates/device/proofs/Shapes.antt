@@ -2,6 +2,7 @@
 -- Assumes nothing.
 use mathlib.Core.Path.{◌≡◌, refl, ap, ◌∙◌}
 use mathlib.Core.Bool.{Bool, true, false}
+use mathlib.Core.List.{List}
 use Prim.Native.Nat.{ℕ}
 use lib.ListN.{length, length-set}
 use Rattle.words.proofs.Choices.{cond_has}
@@ -16,7 +17,7 @@ use Rattle.state.specs.declared.edition.Start.TheVariants.{Edition1}
 use Rattle.device.specs.declared.fresh.Fresh.{Fresh}
 use Rattle.state.proofs.PlusOne.{plus_one-fits, plus_one-long}
 use Rattle.state.specs.Counts.{counted}
-use Rattle.state.specs.Device.{Shaped, SlotsFit, CountsFit, slot_of, commands_of, outcomes_of, empty_window, with_ring, with_slots, with_marker, with_counts, default_limit, fresh_device, empty_device}
+use Rattle.state.specs.Device.{Shaped, SlotsFit, CountsFit, slot_of, commands_of, outcomes_of, empty_windows, with_ring, with_slots, with_marker, with_counts, default_limit, fresh_device, empty_device}
 use Rattle.device.specs.Fresh.{not_made, fresh_with}
 use Rattle.state.specs.Refusal.{memory_fits, limit_fits}
 use Rattle.device.specs.Turn.{Call, emit_to, device_after, finished, served_of, unchanged, turn_of}
@@ -77,24 +78,24 @@ unfolding unchanged served_of finished
 turn-shaped d call s =
     turn_cases d call (λ end. Shaped end.turned.device) (λ why v. s) (λ sound p. s) (λ q sound p. after-shaped d q _ _ s)
 
-pub fresh-shaped : (w0 w1 w2 w3 : Window) (limit : ℕ) (start : Start) → Shaped (fresh_device w0 w1 w2 w3 limit start)
+pub fresh-shaped : (windows : List Window) (limit : ℕ) (start : Start) → Shaped (fresh_device windows limit start)
 unfolding fresh_device
-fresh-shaped w0 w1 w2 w3 limit start = record { rings = refl; slots = refl; commands = refl; outcomes = refl }
+fresh-shaped windows limit start = record { rings = refl; slots = refl; commands = refl; outcomes = refl }
 
 empty-shaped : Shaped empty_device
 unfolding empty_device
-empty-shaped = fresh-shaped empty_window empty_window empty_window empty_window default_limit Edition1
+empty-shaped = fresh-shaped empty_windows default_limit Edition1
 
 -- what holds of the empty device, and of a fresh one if it is made, holds of what a making gives
-pub made_each : (P : Device → Type 0) (memory : ℕ) (w0 w1 w2 w3 : Window) (limit : ℕ) (start : Start) → P empty_device
-    → (limit_fits limit ≡ true → P (fresh_device w0 w1 w2 w3 limit start)) → P (fresh_with memory w0 w1 w2 w3 limit start).device
+pub made_each : (P : Device → Type 0) (memory : ℕ) (windows : List Window) (limit : ℕ) (start : Start) → P empty_device
+    → (limit_fits limit ≡ true → P (fresh_device windows limit start)) → P (fresh_with memory windows limit start).device
 unfolding fresh_with not_made
-made_each P memory w0 w1 w2 w3 limit start empty fresh =
+made_each P memory windows limit start empty fresh =
     let Has : Fresh → Type 0 = λ made. P made.device in
-    cond_has Has (memory_fits memory w0 w1 w2 w3) (λ fits. cond_has Has (limit_fits limit) fresh (λ unfit. empty))
+    cond_has Has (memory_fits memory windows) (λ fits. cond_has Has (limit_fits limit) fresh (λ unfit. empty))
     (λ unfit. empty)
 
-pub made_shaped : (memory : ℕ) (w0 w1 w2 w3 : Window) (limit : ℕ) (start : Start)
-    → Shaped (fresh_with memory w0 w1 w2 w3 limit start).device
-made_shaped memory w0 w1 w2 w3 limit start =
-    made_each Shaped memory w0 w1 w2 w3 limit start empty-shaped (λ limited. fresh-shaped w0 w1 w2 w3 limit start)
+pub made_shaped : (memory : ℕ) (windows : List Window) (limit : ℕ) (start : Start)
+    → Shaped (fresh_with memory windows limit start).device
+made_shaped memory windows limit start =
+    made_each Shaped memory windows limit start empty-shaped (λ limited. fresh-shaped windows limit start)

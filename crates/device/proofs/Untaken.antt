@@ -84,8 +84,8 @@ unfolding unchanged served_of finished untaken_in here
 served_takes d call shaped report =
     turn_cases d call
     (λ end. end.turned.answer ≡ Served report → untaken_in (ring_in call) end.turned.device + 16 ≤ untaken_in (ring_in call) d)
-    (λ why v e. absurd (let z : ◌≡◌ {A = ℕ} 0 1 = cc in omega arith))
-    (λ sound p e. absurd (let z : ◌≡◌ {A = ℕ} 0 1 = cc in omega arith))
+    (λ why v e. absurd (grind arith))
+    (λ sound p e. absurd (grind arith))
     (λ q sound p e.
     let s = picked_servable d call q sound p in
     let inside = whole-inside (ring_in call q) (ring_of d q).cursor s.whole in

@@ -7,15 +7,13 @@ use Prim.Native.Nat.{ℕ, zero, suc, ◌+◌, ◌%◌, ◌≤◌, ◌<◌}
 use native.Mathlib.Omega.{arith}
 use native.Mathlib.Nat.{le_of_suc-le-suc, not-suc-le-zero}
 use lib.ListN.{length}
+use Rattle.std.specs.Prelude.{Option, Some, Result, Ok, Err}
 use lib.Dec.{leb, eqb}
 use borrow.Author.Tests.{leb-true}
 use Rattle.words.proofs.Choices.{both_left, both_right}
 use Rattle.pack.specs.Kernels.{sound_pack}
 use Rattle.state.specs.declared.device.Device.{Device}
 use Rattle.state.specs.declared.refusal.Refusal.{Refusal}
-use Rattle.state.specs.declared.refusal.Verdict.TheVariants.{Sound, Refused}
-use Rattle.state.specs.declared.ready.Picked.{Picked}
-use Rattle.state.specs.declared.ready.Picked.TheVariants.{Ring}
 use Rattle.state.specs.Counts.{balanced}
 use Rattle.state.specs.Device.{ring_of}
 use Rattle.state.specs.Refusal.{window_fits, memory_fits, windows_fit, ring_sound, limit_fits, state_sound, ring_fits, rings_fit, verdict_of}
@@ -23,16 +21,24 @@ use Rattle.state.specs.Ready.{ready_where, ready_at, next_ring, seek, bytes_of_r
 use Rattle.device.specs.Turn.{Servable}
 use Rattle.state.proofs.Seeks.{next_below}
 
+-- a sound call has passed a test, and what comes after it
+passed : (test : Bool) (rest : Result Unit Refusal) (why : Refusal) → cond test rest (Err why) ≡ Ok tt → (test ≡ true) × (rest ≡ Ok tt)
+passed true rest why e = (refl, e)
+passed false rest why e = absurd (grind arith)
+
 -- a sound call has passed each test
 all_passed : (memory state rings pipe pack : Bool)
-    → cond memory (cond state (cond rings (cond pipe (cond pack Sound (Refused Refusal.Pack)) (Refused Refusal.Pipe)) (Refused Refusal.Rings)) (Refused Refusal.State)) (Refused Refusal.Memory) ≡ Sound
+    → ◌≡◌ {A = Result Unit Refusal}
+    (cond memory (cond state (cond rings (cond pipe (cond pack (Ok tt) (Err Refusal.Pack)) (Err Refusal.Pipe)) (Err Refusal.Rings)) (Err Refusal.State)) (Err Refusal.Memory))
+    (Ok tt)
     → (memory ≡ true) × (state ≡ true) × (rings ≡ true) × (pipe ≡ true) × (pack ≡ true)
-all_passed true true true true true e = (refl, refl, refl, refl, refl)
-all_passed true true true true false e = absurd (let z : ◌≡◌ {A = ℕ} 0 1 = cc in omega arith)
-all_passed true true true false pack e = absurd (let z : ◌≡◌ {A = ℕ} 0 1 = cc in omega arith)
-all_passed true true false pipe pack e = absurd (let z : ◌≡◌ {A = ℕ} 0 1 = cc in omega arith)
-all_passed true false rings pipe pack e = absurd (let z : ◌≡◌ {A = ℕ} 0 1 = cc in omega arith)
-all_passed false state rings pipe pack e = absurd (let z : ◌≡◌ {A = ℕ} 0 1 = cc in omega arith)
+all_passed memory state rings pipe pack sound =
+    let memory-passed = passed memory _ Refusal.Memory sound in
+    let state-passed = passed state _ Refusal.State memory-passed.1 in
+    let rings-passed = passed rings _ Refusal.Rings state-passed.1 in
+    let pipe-passed = passed pipe _ Refusal.Pipe rings-passed.1 in
+    let pack-passed = passed pack _ Refusal.Pack pipe-passed.1 in
+    (memory-passed.0, state-passed.0, rings-passed.0, pipe-passed.0, pack-passed.0)
 
 -- what holds of the numbers 0 to 3 holds of every number below 4
 pub each_of_four : (P : ℕ → Type 0) → P 0 → P 1 → P 2 → P 3 → (q : ℕ) → q < 4 → P q
@@ -78,18 +84,18 @@ module _ (d : Device) (sound : state_sound d ≡ true) where
   rings_sound = all_four (λ p. ring_sound (ring_of d p)) (both_right (numbers d) _ sound)
 
 -- a picked ring is one of four and ready
-found_step : (f : ℕ → Bool) (b : Bool) (p q : ℕ) (rest : Picked) → f p ≡ b → p < 4 → (rest ≡ Ring q → (q < 4) × (f q ≡ true))
-    → cond b (Ring p) rest ≡ Ring q → (q < 4) × (f q ≡ true)
+found_step : (f : ℕ → Bool) (b : Bool) (p q : ℕ) (rest : Option ℕ) → f p ≡ b → p < 4 → (rest ≡ Some q → (q < 4) × (f q ≡ true))
+    → cond b (Some p) rest ≡ Some q → (q < 4) × (f q ≡ true)
 found_step f true p q rest fp h further e = let same : p ≡ q = cc in (rw (← same) h, rw (← same) fp)
 found_step f false p q rest fp h further e = further e
 
-pub found : (f : ℕ → Bool) (n p q : ℕ) → p < 4 → seek f p n ≡ Ring q → (q < 4) × (f q ≡ true)
+pub found : (f : ℕ → Bool) (n p q : ℕ) → p < 4 → seek f p n ≡ Some q → (q < 4) × (f q ≡ true)
 unfolding seek
-found f zero p q h e = absurd (let z : ◌≡◌ {A = ℕ} 0 1 = cc in omega arith)
+found f zero p q h e = absurd (grind arith)
 found f (suc n) p q h e = found_step f (f p) p q (seek f (next_ring p) n) refl h (found f n (next_ring p) q (next_below p h)) e
 
 module _ (d : Device) (memory : ℕ) (r0 r1 r2 r3 : List ℕ) (pipe : ℕ) (pack : List ℕ)
-    (sound : verdict_of d memory (length r0) (length r1) (length r2) (length r3) pipe pack ≡ Sound) where
+    (sound : verdict_of d memory (length r0) (length r1) (length r2) (length r3) pipe pack ≡ Ok tt) where
   tests : (windows_fit d memory ≡ true) × (state_sound d ≡ true) × (rings_fit d (length r0) (length r1) (length r2) (length r3) ≡ true)
       × (leb 1020 pipe ≡ true) × (sound_pack pack ≡ true)
   unfolding verdict_of
@@ -118,11 +124,11 @@ module _ (d : Device) (memory : ℕ) (r0 r1 r2 r3 : List ℕ) (pipe : ℕ) (pack
   ring-short q h =
       leb-true _ _ (both_left _ _ (all_four (λ p. ring_fits (ring_of d p) (length (bytes_of_ring p r0 r1 r2 r3))) tests.2 q h))
 
-  picked : (q : ℕ) → pick_of d r0 r1 r2 r3 ≡ Ring q → (q < 4) × (ready_at d q (bytes_of_ring q r0 r1 r2 r3) ≡ true)
+  picked : (q : ℕ) → pick_of d r0 r1 r2 r3 ≡ Some q → (q < 4) × (ready_at d q (bytes_of_ring q r0 r1 r2 r3) ≡ true)
   unfolding pick_of
   picked q e = found (λ p. ready_at d p (bytes_of_ring p r0 r1 r2 r3)) 4 d.marker q steady.marker e
 
-  pub servable : (q : ℕ) → pick_of d r0 r1 r2 r3 ≡ Ring q → Servable d q memory (bytes_of_ring q r0 r1 r2 r3) pipe
+  pub servable : (q : ℕ) → pick_of d r0 r1 r2 r3 ≡ Some q → Servable d q memory (bytes_of_ring q r0 r1 r2 r3) pipe
   unfolding ready_at ready_where
   servable q e = record {
     number = (picked q e).0;

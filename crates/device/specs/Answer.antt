@@ -1,10 +1,9 @@
 -- What an answer stands for: the number and the values that a turn reports, and the number of a making.
-use Rattle.std.specs.Prelude.{ℕ, Bool, false}
+use Rattle.std.specs.Prelude.{ℕ, Bool, false, Result, Ok, Err, is_some, unwrap_or}
 use Rattle.kernel.specs.declared.site.Site.{Site}
 use Rattle.kernel.specs.Site.{no_site}
 use Rattle.command.specs.Outcome.{outcome_number}
-use Rattle.device.specs.declared.fresh.Making.{Making}
-use Rattle.device.specs.declared.fresh.Making.TheVariants.{Made, Refused as RefusedToMake}
+use Rattle.state.specs.declared.refusal.Refusal.{Refusal}
 use Rattle.device.specs.declared.turn.Report.{Report}
 use Rattle.device.specs.declared.turn.Answer.{Answer}
 use Rattle.device.specs.declared.turn.Answer.TheVariants.{Refused, Idle, Served}
@@ -31,15 +30,15 @@ pub record Values : Type 0 where
 abbrev pub no_values : Values
 no_values = record { ring = 0; outcome = 0; fence = 0; words = 0; irq = false; emitted = false; site = no_site }
 
--- those of a report
+-- those of a report; where no fence was emitted its number is 0
 abbrev pub report_values : Report → Values
 report_values r = record {
   ring = r.ring;
   outcome = outcome_number r.outcome;
-  fence = r.fence;
+  fence = unwrap_or r.fence 0;
   words = r.words;
   irq = r.irq;
-  emitted = r.emitted;
+  emitted = is_some r.fence;
   site = r.site;
 }
 
@@ -50,6 +49,6 @@ values_of Idle = no_values
 values_of (Served r) = report_values r
 
 -- making a fresh device: 0 made, or the refusal's number
-abbrev pub making_number : Making → ℕ
-making_number Made = 0
-making_number (RefusedToMake why) = refusal_number why
+abbrev pub making_number : Result Unit Refusal → ℕ
+making_number (Ok made) = 0
+making_number (Err why) = refusal_number why

@@ -1,5 +1,6 @@
 -- A turn.
-use Rattle.std.specs.Prelude.{ℕ, ◌+◌, ◌≤◌, ◌<◌, ◌≡◌, Bool, true, cond, List, length}
+use Rattle.std.specs.Prelude.{ℕ, ◌+◌, ◌≤◌, ◌<◌, ◌≡◌, Bool, true, cond, List, length, Option, Some, None, Result, Ok, Err}
+use Rattle.std.specs.Bool.{then_some}
 use Rattle.memory.specs.Window.{window_of, put_back}
 use Rattle.command.specs.declared.header.Command.{Command}
 use Rattle.command.specs.declared.frame.Frame.{Frame}
@@ -10,13 +11,10 @@ use Rattle.work.specs.Perform.{performed_of}
 use Rattle.command.specs.Report.{emits, interrupts, words_read}
 use Rattle.state.specs.declared.device.Ring.{Ring}
 use Rattle.state.specs.declared.device.Device.{Device}
-use Rattle.state.specs.declared.refusal.Verdict.{Verdict}
-use Rattle.state.specs.declared.refusal.Verdict.TheVariants.{Sound, Refused}
-use Rattle.state.specs.declared.ready.Picked.{Picked}
-use Rattle.state.specs.declared.ready.Picked.TheVariants.{Ring as RingOf, Nobody}
+use Rattle.state.specs.declared.refusal.Refusal.{Refusal}
 use Rattle.device.specs.declared.turn.Report.{Report}
 use Rattle.device.specs.declared.turn.Answer.{Answer}
-use Rattle.device.specs.declared.turn.Answer.TheVariants.{Refused as RefusedFor, Idle, Served}
+use Rattle.device.specs.declared.turn.Answer.TheVariants.{Refused, Idle, Served}
 use Rattle.device.specs.declared.turn.Turned.{Turned}
 use Rattle.state.specs.Slots.{is_full, emitted, emitted_in}
 use Rattle.state.specs.Counts.{counted}
@@ -44,7 +42,7 @@ abbrev pub ring_in : Call → ℕ → List ℕ
 ring_in call q = bytes_of_ring q call.ring0 call.ring1 call.ring2 call.ring3
 
 -- the ring that a call's turn picks
-abbrev pub pick_in : Device → Call → Picked
+abbrev pub pick_in : Device → Call → Option ℕ
 pick_in d call = pick_of d call.ring0 call.ring1 call.ring2 call.ring3
 
 -- the device after a turn and its answer, and the memory and pipe that it leaves
@@ -63,16 +61,12 @@ pub record Shows (r : Turned) (m p : List ℕ) (end : TurnEnd) : Type 0 where
 unfoldable pub unchanged : Device → Call → Answer → TurnEnd
 unchanged d call answer = record { turned = record { device = d; answer = answer }; memory = call.memory; pipe = call.pipe }
 
--- the reported fence: the slot's new number if one is emitted, else 0
-unfoldable pub fence_of : Bool → ℕ → ℕ
-fence_of emitting slot = cond emitting (emitted slot) 0
-
 -- an emit changes its slot
 unfoldable pub emit_to : Bool → Device → ℕ → Device
 emit_to emitting d n = cond emitting (with_slots d (emitted_in d.slots n)) d
 
 -- a ring whose command is taken: its cursor moves past it
-unfoldable pub ring_after : Ring → Command → Frame → Ring
+unfoldable pub ring_after : Ring → Command → Option Frame → Ring
 ring_after r c frame = record { window = r.window; cursor = r.cursor + c.size; frame = frame }
 
 -- the device once ring q's command has had its outcome: the marker becomes the ring after it, and the command is counted
@@ -84,15 +78,14 @@ device_after d q c p =
     (next_ring q))
     (counted d.counts q (outcome_number p.outcome))
 
--- what is reported of a served command
+-- what is reported of a served command; a fence is the slot's new number, if one is emitted
 unfoldable pub report_of : Device → ℕ → Command → Performed → Report
 report_of d q c p = record {
   ring = q;
   outcome = p.outcome;
-  fence = fence_of (emits c p.outcome) (slot_of d c.rdst);
+  fence = then_some (emits c p.outcome) (emitted (slot_of d c.rdst));
   words = words_read c p.outcome;
   irq = interrupts c p.outcome;
-  emitted = emits c p.outcome;
   site = p.site;
 }
 
@@ -114,17 +107,17 @@ served_of d q ring memory pack pipe =
     }
 
 -- the first ready ring is served; if none is, the answer is idle
-unfoldable pub picked_of : Device → Call → Picked → TurnEnd
-picked_of d call (RingOf q) = served_of d q (ring_in call q) call.memory call.pack call.pipe
-picked_of d call Nobody = unchanged d call Idle
+unfoldable pub picked_of : Device → Call → Option ℕ → TurnEnd
+picked_of d call (Some q) = served_of d q (ring_in call q) call.memory call.pack call.pipe
+picked_of d call None = unchanged d call Idle
 
 -- a call that is not refused takes its turn
-unfoldable pub judged_of : Device → Call → Verdict → TurnEnd
-judged_of d call Sound = picked_of d call (pick_in d call)
-judged_of d call (Refused why) = unchanged d call (RefusedFor why)
+unfoldable pub judged_of : Device → Call → Result Unit Refusal → TurnEnd
+judged_of d call (Ok sound) = picked_of d call (pick_in d call)
+judged_of d call (Err why) = unchanged d call (Refused why)
 
 -- the verdict on a call
-unfoldable pub verdict_on : Device → Call → Verdict
+unfoldable pub verdict_on : Device → Call → Result Unit Refusal
 verdict_on d call =
     verdict_of d (length call.memory) (length call.ring0) (length call.ring1) (length call.ring2) (length call.ring3)
     (length call.pipe) call.pack

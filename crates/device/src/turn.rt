@@ -1,8 +1,7 @@
 // A turn: one command taken from the first ready ring.
 ghost use Rattle.std.specs.Prelude.{◌≡◌, ◌+◌, ◌^◌, ◌<◌, length};
 ghost use Rattle.state.specs.Device.{ring_of};
-ghost use Rattle.device.specs.Turn.{fence_of, emit_to, ring_after, device_after, report_of, finished, Shows, Servable, served_of, call_of, turn_of};
-ghost use Rattle.state.specs.Ready.{bytes_of_ring};
+ghost use Rattle.device.specs.Turn.{emit_to, ring_after, device_after, report_of, finished, Shows, Servable, served_of, call_of, turn_of};
 
 use command::frame::Frame;
 use command::header::{Command, command_at};
@@ -10,8 +9,9 @@ use command::outcome::Outcome;
 use command::report::{emits_fence, raises_irq, words_read};
 use kernel::site::Site;
 use state::device::{Device, Ring};
-use state::ready::{Picked, bytes_of_ring, next_ring, pick};
-use state::refusal::{Refusal, Verdict, judge};
+use state::ready::{next_ring, pick};
+use state::refusal::{Refusal, judge};
+use state::rings::Rings;
 use state::slots::{emit, emitted, is_full};
 use work::perform::perform;
 use work::work::Performed;
@@ -21,12 +21,11 @@ use work::work::Performed;
 pub struct Report {
     pub ring: u32,
     pub outcome: Outcome,
-    pub fence: u32,
+    // The number that the command's slot holds now, if the command emitted. It may be 0.
+    pub fence: Option<u32>,
     // How many words were read to the pipe.
     pub words: u32,
     pub irq: bool,
-    // Whether a fence was emitted: its number may be 0.
-    pub emitted: bool,
     // Where a kernel's thread stopped, if one did.
     pub site: Site,
 }
@@ -44,13 +43,6 @@ pub struct Turned {
     pub answer: Answer,
 }
 
-#[tactic(auto, unfolding(crate::specs::Turn::fence_of))]
-fn fence_of(emitting: bool, slot: u32) -> u32
-    ensures { result ≡ fence_of emitting slot }
-{
-    if emitting { emitted(slot) } else { 0 }
-}
-
 #[tactic(auto, unfolding(crate::specs::Turn::emit_to))]
 fn emit_to(emitting: bool, d: Device, n: u8) -> Device
     ensures { result ≡ emit_to emitting d n }
@@ -64,7 +56,7 @@ fn emit_to(emitting: bool, d: Device, n: u8) -> Device
 }
 
 #[tactic(auto, unfolding(crate::specs::Turn::ring_after))]
-fn ring_after(ring: Ring, command: Command, frame: Frame) -> Ring
+fn ring_after(ring: Ring, command: Command, frame: Option<Frame>) -> Ring
     requires { ring.cursor + command.size < 2 ^ 32 }
     ensures { result ≡ ring_after ring command frame }
 {
@@ -102,10 +94,9 @@ fn report_of(d: Device, q: u32, command: Command, done: Performed) -> Report
     Report {
         ring: q,
         outcome,
-        fence: fence_of(emitting, slot),
+        fence: emitting.then_some(emitted(slot)),
         words: words_read(command, outcome),
         irq: raises_irq(command, outcome),
-        emitted: emitting,
         site,
     }
 }
@@ -149,61 +140,20 @@ fn serve(d: Device, q: u32, mem: &mut [u8], ring: &[u8], pack: &[u8], pipe: &mut
     finish(d, q, command, done)
 }
 
-// Ring q has been picked.
-fn serve_picked<'a>(
-    d: Device,
-    q: u32,
-    mem: &mut [u8],
-    r0: &'a [u8],
-    r1: &'a [u8],
-    r2: &'a [u8],
-    r3: &'a [u8],
-    pack: &[u8],
-    pipe: &mut [u8],
-) -> Turned
-    requires { Servable d q (length mem.old) (bytes_of_ring q r0.now r1.now r2.now r3.now) (length pipe.old) }
-    ensures { Shows result mem.new pipe.new (served_of d q (bytes_of_ring q r0.now r1.now r2.now r3.now) mem.old pack.now pipe.old) }
-{
-    let ring = bytes_of_ring(q, r0, r1, r2, r3);
-    serve(d, q, mem, ring, pack, pipe)
-}
-
 // One turn. Anything may be handed in; a refused or idle turn changes nothing.
 #[tactic(auto, unfolding(crate::specs::Turn::turn_of, crate::specs::Turn::verdict_on, crate::specs::Turn::judged_of, crate::specs::Turn::unchanged, crate::specs::Turn::picked_of))]
-pub fn turn<'a>(
-    d: Device,
-    mem: &mut [u8],
-    r0: &'a [u8],
-    r1: &'a [u8],
-    r2: &'a [u8],
-    r3: &'a [u8],
-    pack: &[u8],
-    pipe: &mut [u8],
-) -> Turned
-    ensures { Shows result mem.new pipe.new (turn_of d (call_of mem.old r0.now r1.now r2.now r3.now pack.now pipe.old)) }
+pub fn turn(d: Device, mem: &mut [u8], rings: Rings<'_>, pack: &[u8], pipe: &mut [u8]) -> Turned
+    ensures { Shows result mem.new pipe.new (turn_of d (call_of mem.old rings.entry.ring0.now rings.entry.ring1.now rings.entry.ring2.now rings.entry.ring3.now pack.now pipe.old)) }
 {
-    let verdict = judge(
-        d,
-        mem.len(),
-        r0.len(),
-        r1.len(),
-        r2.len(),
-        r3.len(),
-        pipe.len(),
-        pack,
-    );
-    match verdict {
-        Verdict::Sound => {}
-        Verdict::Refused(why) => {
-            return Turned {
-                device: d,
-                answer: Answer::Refused(why),
-            };
-        }
+    if let Err(why) = judge(d, mem.len(), rings, pipe.len(), pack) {
+        return Turned {
+            device: d,
+            answer: Answer::Refused(why),
+        };
     }
-    match pick(d, r0, r1, r2, r3) {
-        Picked::Ring(q) => serve_picked(d, q, mem, r0, r1, r2, r3, pack, pipe),
-        Picked::Nobody => Turned {
+    match pick(d, rings) {
+        Some(q) => serve(d, q, mem, rings.ring(q), pack, pipe),
+        None => Turned {
             device: d,
             answer: Answer::Idle,
         },

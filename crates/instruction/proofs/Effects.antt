@@ -1,11 +1,9 @@
 -- The instructions that can have more than one effect: what holds of each holds of what they do.
 -- Assumes nothing.
 use Prim.Native.Nat.{ℕ}
-use Rattle.memory.specs.declared.access.Loaded.{Loaded}
-use Rattle.memory.specs.declared.access.Loaded.TheVariants.{Value, Outside as NoValue}
+use Rattle.std.specs.Prelude.{Result, Ok, Err}
+use Rattle.memory.specs.declared.address.Outside.{Outside as NotInside}
 use Rattle.memory.specs.declared.quad.Quad.{Quad}
-use Rattle.memory.specs.declared.quad.LoadedQuad.{LoadedQuad}
-use Rattle.memory.specs.declared.quad.LoadedQuad.TheVariants.{Words, Outside as NoWords}
 use Rattle.instruction.specs.declared.list.Cond.{Cond}
 use Rattle.instruction.specs.declared.effect.Effect.{Effect}
 use Rattle.instruction.specs.declared.effect.Effect.TheVariants.{Put, PutQuad, Go, Next, Outside}
@@ -15,16 +13,16 @@ use Rattle.instruction.specs.Effect.{loaded_effect, loaded_quad_effect, branch_e
 
 module _ (P : Effect → Type 0) where
   -- a load puts a scalar or is outside
-  pub of_load : (l : Loaded) → ((x : ℕ) → P (Put x)) → ((first : ℕ) → P (Outside first)) → P (loaded_effect l)
+  pub of_load : (l : Result ℕ NotInside) → ((x : ℕ) → P (Put x)) → ((first : ℕ) → P (Outside first)) → P (loaded_effect l)
   unfolding loaded_effect
-  of_load (Value x) put outside = put x
-  of_load (NoValue first) put outside = outside first
+  of_load (Ok x) put outside = put x
+  of_load (Err o) put outside = outside o.first
 
   -- a load of four words puts them or is outside
-  pub of_quad_load : (vd : ℕ) (l : LoadedQuad) → ((q : Quad) → P (PutQuad vd q)) → ((first : ℕ) → P (Outside first)) → P (loaded_quad_effect vd l)
+  pub of_quad_load : (vd : ℕ) (l : Result Quad NotInside) → ((q : Quad) → P (PutQuad vd q)) → ((first : ℕ) → P (Outside first)) → P (loaded_quad_effect vd l)
   unfolding loaded_quad_effect
-  of_quad_load vd (Words q) put outside = put q
-  of_quad_load vd (NoWords first) put outside = outside first
+  of_quad_load vd (Ok q) put outside = put q
+  of_quad_load vd (Err o) put outside = outside o.first
 
   -- a branch is taken or not
   pub of_branch : (c : Cond) (offset x y : ℕ) → P (Go offset) → P Next → P (branch_effect c offset x y)

@@ -6,6 +6,7 @@ use mathlib.Core.Bool.{true, false}
 use mathlib.Core.List.{List}
 use Prim.Native.Nat.{ℕ}
 use Rattle.words.specs.Arithmetic.{sum}
+use Rattle.memory.specs.declared.quad.Quad.{Quad}
 use Rattle.memory.specs.Access.{load_of}
 use Rattle.memory.specs.Quad.{load_quad_of}
 use Rattle.instruction.specs.declared.list.Op.{Op}
@@ -32,7 +33,7 @@ Tells row End = (row.writes ≡ false) × (row.ends_thread ≡ true)
 Tells row NotListed = Neither row
 Tells row (Outside first) = row.ends_thread ≡ false
 
-module _ (vectors window : List ℕ) where
+module _ (vectors : List Quad) (window : List ℕ) where
   -- values that are equal where they are read have the same effect
   pub unread : (op : Op) (x x' y y' : ℕ) → ((operands_of op).reads1 ≡ true → x ≡ x') → ((operands_of op).reads2 ≡ true → y ≡ y')
       → effect_of op x y vectors window ≡ effect_of op x' y' vectors window

@@ -1,12 +1,10 @@
 -- What an instruction does, from the values of its operands.
-use Rattle.std.specs.Prelude.{ℕ, ◌%◌, cond, List}
+use Rattle.std.specs.Prelude.{ℕ, ◌%◌, cond, List, Result, Ok, Err}
 use Rattle.words.specs.Arithmetic.{sum}
 use Rattle.memory.specs.Access.{load_of}
-use Rattle.memory.specs.Quad.{load_quad_of}
-use Rattle.memory.specs.declared.access.Loaded.{Loaded}
-use Rattle.memory.specs.declared.access.Loaded.TheVariants.{Value, Outside as NoValue}
-use Rattle.memory.specs.declared.quad.LoadedQuad.{LoadedQuad}
-use Rattle.memory.specs.declared.quad.LoadedQuad.TheVariants.{Words, Outside as NoWords}
+use Rattle.memory.specs.Quad.{quad_word, load_quad_of}
+use Rattle.memory.specs.declared.address.Outside.{Outside as NotInside}
+use Rattle.memory.specs.declared.quad.Quad.{Quad}
 use Rattle.instruction.specs.declared.list.Cond.{Cond}
 use Rattle.instruction.specs.declared.list.Op.{Op}
 use Rattle.instruction.specs.declared.list.Op.TheVariants.{Alu, Unary, AluImm, Lui, Branch, Load, Store, Membar, Wfi, Vector, Vbcast, Vextr, Vld, Vst, Unlisted}
@@ -16,21 +14,21 @@ use Rattle.instruction.specs.Meaning.{alu_of, unary_of, holds_of}
 use Rattle.instruction.specs.Vectors.{quad_of, lanes_of_quads, broadcast}
 
 -- what was read goes to scalar rd; of a load not wholly in the window the first address that is not inside is handed on
-unfoldable pub loaded_effect : Loaded → Effect
-loaded_effect (Value x) = Put x
-loaded_effect (NoValue first) = Outside first
+unfoldable pub loaded_effect : Result ℕ NotInside → Effect
+loaded_effect (Ok x) = Put x
+loaded_effect (Err o) = Outside o.first
 
 -- the same for 16 bytes to a vector register
-unfoldable pub loaded_quad_effect : ℕ → LoadedQuad → Effect
-loaded_quad_effect vd (Words q) = PutQuad vd q
-loaded_quad_effect vd (NoWords first) = Outside first
+unfoldable pub loaded_quad_effect : ℕ → Result Quad NotInside → Effect
+loaded_quad_effect vd (Ok q) = PutQuad vd q
+loaded_quad_effect vd (Err o) = Outside o.first
 
 -- a branch is taken if its comparison holds
 unfoldable pub branch_effect : Cond → ℕ → ℕ → ℕ → Effect
 branch_effect c offset x y = cond (holds_of c x y) (Go offset) Next
 
 -- x is rs1's value and y is rs2's; addresses wrap to 32 bits, accesses do not
-unfoldable pub effect_of : Op → ℕ → ℕ → List ℕ → List ℕ → Effect
+unfoldable pub effect_of : Op → ℕ → ℕ → List Quad → List ℕ → Effect
 effect_of (Alu o) x y vectors window = Put (alu_of o x y)
 effect_of (Unary o) x y vectors window = Put (unary_of o x)
 effect_of (AluImm o imm) x y vectors window = Put (alu_of o x imm)
@@ -43,7 +41,7 @@ effect_of Wfi x y vectors window = End
 effect_of (Vector op ty vd v1 v2) x y vectors window =
     PutQuad vd (lanes_of_quads op ty (quad_of vectors (v1 % 32)) (quad_of vectors (v2 % 32)))
 effect_of (Vbcast vd) x y vectors window = PutQuad vd (broadcast x)
-effect_of (Vextr v1) x y vectors window = Put (quad_of vectors (v1 % 32)).w0
+effect_of (Vextr v1) x y vectors window = Put (quad_word (quad_of vectors (v1 % 32)) 0)
 effect_of (Vld vd) x y vectors window = loaded_quad_effect vd (load_quad_of window x)
 effect_of (Vst v2) x y vectors window = StoreQuad x (quad_of vectors (v2 % 32))
 effect_of Unlisted x y vectors window = NotListed

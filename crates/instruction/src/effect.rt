@@ -5,11 +5,12 @@ ghost use Rattle.instruction.specs.Effect.{loaded_effect, loaded_quad_effect, br
 use crate::list::{Cond, Op};
 use crate::meaning::{alu, holds, unary};
 use crate::vectors::{lanes_of_quads, quad, to_four_words};
-use memory::access::{Loaded, Width, load};
-use memory::quad::{LoadedQuad, Quad, load_quad};
+use memory::access::{Width, load};
+use memory::address::Outside;
+use memory::quad::{Quad, load_quad};
 use words::arithmetic::add;
 
-#[derive(Clone, Copy)]
+#[derive(Clone, Copy, Debug, PartialEq, Eq)]
 pub enum Effect {
     // To scalar rd.
     Put(u32),
@@ -31,22 +32,22 @@ pub enum Effect {
 }
 
 #[tactic(auto, unfolding(crate::specs::Effect::loaded_effect))]
-fn loaded_effect(loaded: Loaded) -> Effect
+fn loaded_effect(loaded: Result<u32, Outside>) -> Effect
     ensures { result ≡ loaded_effect loaded }
 {
     match loaded {
-        Loaded::Value(x) => Effect::Put(x),
-        Loaded::Outside(first) => Effect::Outside(first),
+        Ok(x) => Effect::Put(x),
+        Err(outside) => Effect::Outside(outside.first),
     }
 }
 
 #[tactic(auto, unfolding(crate::specs::Effect::loaded_quad_effect))]
-fn loaded_quad_effect(vd: u32, loaded: LoadedQuad) -> Effect
+fn loaded_quad_effect(vd: u32, loaded: Result<Quad, Outside>) -> Effect
     ensures { result ≡ loaded_quad_effect vd loaded }
 {
     match loaded {
-        LoadedQuad::Words(q) => Effect::PutQuad(vd, q),
-        LoadedQuad::Outside(first) => Effect::Outside(first),
+        Ok(q) => Effect::PutQuad(vd, q),
+        Err(outside) => Effect::Outside(outside.first),
     }
 }
 
@@ -63,7 +64,7 @@ fn branch_effect(cond: Cond, offset: u32, x: u32, y: u32) -> Effect
 
 // x is rs1's value and y is rs2's.
 #[tactic(auto, unfolding(crate::specs::Effect::effect_of))]
-pub fn effect_of(op: Op, x: u32, y: u32, vectors: &[u32; 128], window: &[u8]) -> Effect
+pub fn effect_of(op: Op, x: u32, y: u32, vectors: &[Quad; 32], window: &[u8]) -> Effect
     ensures { result ≡ effect_of op x y vectors.now window.now }
 {
     match op {
@@ -83,7 +84,7 @@ pub fn effect_of(op: Op, x: u32, y: u32, vectors: &[u32; 128], window: &[u8]) ->
             )
         }
         Op::Vbcast { vd } => Effect::PutQuad(vd, to_four_words(x)),
-        Op::Vextr { v1 } => Effect::Put(quad(vectors, v1).w0),
+        Op::Vextr { v1 } => Effect::Put(quad(vectors, v1).words[0]),
         Op::Vld { vd } => loaded_quad_effect(vd, load_quad(window, x)),
         Op::Vst { v2 } => Effect::StoreQuad(x, quad(vectors, v2)),
         Op::Unlisted => Effect::NotListed,

@@ -3,7 +3,7 @@
 use memory::access::Width;
 use words::lanes::{LaneOp, LaneType};
 
-#[derive(Clone, Copy)]
+#[derive(Clone, Copy, Debug, PartialEq, Eq)]
 pub enum AluOp {
     Add,
     Sub,
@@ -18,14 +18,14 @@ pub enum AluOp {
     And,
 }
 
-#[derive(Clone, Copy)]
+#[derive(Clone, Copy, Debug, PartialEq, Eq)]
 pub enum UnaryOp {
     Abs,
     Clz,
     Ctz,
 }
 
-#[derive(Clone, Copy)]
+#[derive(Clone, Copy, Debug, PartialEq, Eq)]
 pub enum Cond {
     Eq,
     Ne,

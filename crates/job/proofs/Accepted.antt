@@ -8,8 +8,8 @@ use native.Mathlib.Nat.{le_antisymm}
 use lib.Dec.{leb, eqb}
 use lib.ListN.{length}
 use borrow.Author.Tests.{leb-true, eqb-true}
-use Rattle.job.specs.declared.parse.Parsed.{Parsed}
-use Rattle.job.specs.declared.parse.Parsed.TheVariants.{Accepted}
+use Rattle.std.specs.Prelude.{Result, Ok}
+use Rattle.job.specs.declared.fault.Fault.{Fault}
 use Rattle.job.specs.declared.parts.Job.{Job}
 use Rattle.job.specs.declared.section.Section.{Section}
 use Rattle.job.specs.declared.sections.Sections.{Sections}
@@ -19,7 +19,7 @@ use Rattle.words.specs.Choice.{all_below}
 use Rattle.job.specs.Kernels.{has_word, lies_in_code}
 use Rattle.job.specs.Checks.{windows_sound, kernels_sound, code_sound, memory_sound}
 use Rattle.job.specs.Parts.{job_of}
-use Rattle.job.specs.Parse.{unless, from_kernels, from_rings, parts_of}
+use Rattle.job.specs.Parse.{unless, parts_of}
 
 -- the checks of an input with these sections, as facts
 pub record Checked (input : List ℕ) (sections : Sections) : Type 0 where
@@ -47,14 +47,17 @@ whole_and_few input section most e =
     let h = both (is_whole input section) (leb section.count most) e in
     (leb-true _ _ h.0, leb-true _ _ h.1)
 
--- past a check only if it held
-past : (number : ℕ) (sound : Bool) (rest : Parsed) {job : Job} → unless number sound rest ≡ Accepted job → (sound ≡ true) × (rest ≡ Accepted job)
-unfolding unless
-past number true rest e = (refl, e)
-past number false rest e = (cc, cc)
+abbrev ok : Job → Result Job Fault
+ok job = Ok job
 
-pub checked : (input : List ℕ) (job : Job) → parts_of input ≡ Accepted job → Checked input (sections_of input) × (job ≡ job_of input (sections_of input))
-unfolding parts_of from_rings from_kernels windows_sound kernels_sound code_sound memory_sound
+-- past a check only if it held
+past : (fault : Fault) (sound : Bool) (rest : Result Job Fault) {job : Job} → unless fault sound rest ≡ Ok job → (sound ≡ true) × (rest ≡ Ok job)
+unfolding unless
+past fault true rest e = (refl, e)
+past fault false rest e = (cc, cc)
+
+pub checked : (input : List ℕ) (job : Job) → parts_of input ≡ Ok job → Checked input (sections_of input) × (job ≡ job_of input (sections_of input))
+unfolding parts_of windows_sound kernels_sound code_sound memory_sound
 checked input job e =
     let s = sections_of input in
     let p0 = past _ _ _ e in
@@ -90,5 +93,5 @@ checked input job e =
       accepted_same p9.1,
     )
   where
-    accepted_same : {a b : Job} → Accepted a ≡ Accepted b → b ≡ a
+    accepted_same : {a b : Job} → ok a ≡ ok b → b ≡ a
     accepted_same e = cc

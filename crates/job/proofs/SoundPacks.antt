@@ -12,7 +12,7 @@ use Rattle.memory.specs.Window.{window_of}
 use Rattle.memory.proofs.Window.{window_byte, window-length}
 use Rattle.pack.specs.Kernels.{kernel_count, first_word, kernel_words, code_count, all_lie, sound_pack}
 use Rattle.pack.specs.Kernels as pack
-use Rattle.job.specs.declared.parse.Parsed.TheVariants.{Accepted}
+use Rattle.std.specs.Prelude.{Ok}
 use Rattle.job.specs.declared.parts.Job.{Job}
 use Rattle.job.specs.Section.{section_at}
 use Rattle.job.specs.Sections.{sections_of, kernels_of, code_of}
@@ -82,5 +82,5 @@ pack_sound input held =
     rw size (sound input at K N refl refl (omega (arith, held.code_end)) held.kernels held.code held.have_words held.lie_in_code)
 
 -- the part of an accepted input that is handed on as its kernel pack
-pub accepted_pack_sound : (input : List ℕ) (job : Job) → parts_of input ≡ Accepted job → sound_pack (bytes_of input job.pack) ≡ true
+pub accepted_pack_sound : (input : List ℕ) (job : Job) → parts_of input ≡ Ok job → sound_pack (bytes_of input job.pack) ≡ true
 accepted_pack_sound input job e = let h = checked input job e in rw h.1 (pack_sound input h.0)

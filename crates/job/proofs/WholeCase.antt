@@ -3,14 +3,14 @@
 use mathlib.Core.Path.{◌≡◌, refl}
 use lib.ListN.{length}
 use Rattle.memory.specs.Place.{word_at}
-use Rattle.job.specs.declared.parts.Window.{Window}
-use Rattle.job.specs.declared.parse.Parsed.TheVariants.{Accepted}
+use Rattle.state.specs.declared.device.Window.{Window}
+use Rattle.std.specs.Prelude.{Ok}
 use Rattle.job.specs.Section.{section_at}
 use Rattle.job.specs.Sections.{sections_of, windows_of, ring0_of, ring1_of, ring2_of, ring3_of, kernels_of, code_of, memory_of}
 use Rattle.words.specs.Choice.{all_below}
 use Rattle.job.specs.Checks.{windows_sound, kernels_sound, code_sound, memory_sound}
 use Rattle.job.specs.Parts.{window_at, job_of}
-use Rattle.job.specs.Parse.{unless, from_kernels, from_rings, parts_of}
+use Rattle.job.specs.Parse.{unless, parts_of}
 use Rattle.job.specs.WholeCase.{whole_case}
 
 pub its_length : length whole_case ≡ 116
@@ -23,7 +23,7 @@ same = record { start = 0; length = 16 }
 
 pub its_parts :
     parts_of whole_case
-    ≡ Accepted
+    ≡ Ok
     (record {
       window0 = same;
       window1 = same;
@@ -36,5 +36,5 @@ pub its_parts :
       pack = record { start = 88; end = 96 };
       memory = record { start = 100; end = 116 };
     })
-unfolding whole_case parts_of unless from_rings from_kernels windows_sound kernels_sound code_sound memory_sound all_below sections_of windows_of ring0_of ring1_of ring2_of ring3_of kernels_of code_of memory_of section_at job_of window_at word_at
+unfolding whole_case parts_of unless windows_sound kernels_sound code_sound memory_sound all_below sections_of windows_of ring0_of ring1_of ring2_of ring3_of kernels_of code_of memory_of section_at job_of window_at word_at
 its_parts = refl

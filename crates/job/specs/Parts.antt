@@ -4,7 +4,7 @@ use Rattle.memory.specs.Place.{word_at}
 use Rattle.memory.specs.Window.{window_of}
 use Rattle.job.specs.declared.section.Section.{Section}
 use Rattle.job.specs.declared.sections.Sections.{Sections}
-use Rattle.job.specs.declared.parts.Window.{Window}
+use Rattle.state.specs.declared.device.Window.{Window}
 use Rattle.job.specs.declared.parts.Part.{Part}
 use Rattle.job.specs.declared.parts.Job.{Job}
 

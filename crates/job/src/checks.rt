@@ -2,10 +2,9 @@
 ghost use Rattle.std.specs.Prelude.{◌≡◌, ◌≤◌, ◌^◌};
 ghost use Rattle.job.specs.Checks.{windows_sound, kernels_sound, code_sound, memory_sound};
 
-use crate::kernels::{all_have_words, all_lie_in_code};
+use crate::kernels::{has_word, lies_in_code};
 use crate::section::{Section, is_whole};
 use pack::kernels::{MOST_CODE, MOST_KERNELS};
-use words::choice::both;
 
 const MOST_MEMORY: u32 = 4096;
 
@@ -13,7 +12,7 @@ const MOST_MEMORY: u32 = 4096;
 pub fn windows_are_sound(input: &[u8], windows: Section) -> bool
     ensures { result ≡ windows_sound input.now windows }
 {
-    both(is_whole(input, windows), windows.count == 4)
+    is_whole(input, windows) & (windows.count == 4)
 }
 
 #[tactic(auto, unfolding(crate::specs::Checks::kernels_sound))]
@@ -21,10 +20,8 @@ pub fn kernels_are_sound(input: &[u8], kernels: Section) -> bool
     requires { kernels.start ≤ 2 ^ 40 }
     ensures { result ≡ kernels_sound input.now kernels }
 {
-    if both(is_whole(input, kernels), kernels.count <= MOST_KERNELS) {
-        return all_have_words(input, kernels.start, kernels.count);
-    }
-    false
+    is_whole(input, kernels) & (kernels.count <= MOST_KERNELS)
+        && (0..kernels.count).all(|k| has_word(input, kernels.start, k))
 }
 
 #[tactic(auto, unfolding(crate::specs::Checks::code_sound))]
@@ -32,15 +29,13 @@ pub fn code_is_sound(input: &[u8], code: Section, kernels: Section) -> bool
     requires { kernels.start ≤ 2 ^ 40 }
     ensures { result ≡ code_sound input.now code kernels }
 {
-    if both(is_whole(input, code), code.count <= MOST_CODE) {
-        return all_lie_in_code(input, kernels.start, code.count, kernels.count);
-    }
-    false
+    is_whole(input, code) & (code.count <= MOST_CODE)
+        && (0..kernels.count).all(|k| lies_in_code(input, kernels.start, code.count, k))
 }
 
 #[tactic(auto, unfolding(crate::specs::Checks::memory_sound))]
 pub fn memory_is_sound(input: &[u8], memory: Section) -> bool
     ensures { result ≡ memory_sound input.now memory }
 {
-    both(is_whole(input, memory), memory.count <= MOST_MEMORY)
+    is_whole(input, memory) & (memory.count <= MOST_MEMORY)
 }

@@ -2,6 +2,7 @@
 #![tactic(auto)]
 
 mod checks;
+pub mod fault;
 mod kernels;
 pub mod parse;
 pub mod parts;

@@ -1,16 +1,12 @@
 // What a job is made of.
-ghost use Rattle.std.specs.Prelude.{◌≡◌, ◌≤◌, min};
+ghost use Rattle.std.specs.Prelude.{◌≡◌, ◌≤◌};
 ghost use Rattle.job.specs.Parts.{window_at, content_of, bytes_of, job_of};
 
 use crate::section::Section;
 use crate::sections::Sections;
 use memory::peek::peek_word;
-
-#[derive(Clone, Copy)]
-pub struct Window {
-    pub start: u32,
-    pub length: u32,
-}
+use state::device::Window;
+use std::cmp::min;
 
 // Bytes of the input, from `start` up to `end`.
 #[derive(Clone, Copy)]
@@ -53,22 +49,17 @@ fn content_of(section: Section) -> Part
     }
 }
 
-fn least(a: usize, b: usize) -> usize
-    ensures { result ≡ min a b }
-{
-    if a <= b { a } else { b }
-}
-
 // The bytes of a part that are there.
+#[tactic(auto, using(crate::proofs::PartLaws::bytes_some, crate::proofs::PartLaws::bytes_none))]
 pub fn bytes_of(input: &[u8], part: Part) -> &[u8]
     ensures { result.now ≡ bytes_of input.now part }
 {
-    let start = part.start;
-    let end = least(part.end, input.len());
-    if start <= end {
-        return &input[start..end];
+    let end = min(part.end, input.len());
+    if part.start <= end {
+        &input[part.start..end]
+    } else {
+        &[]
     }
-    &input[0..0]
 }
 
 // The job of an input with these sections.

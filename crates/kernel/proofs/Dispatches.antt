@@ -9,8 +9,7 @@ use Rattle.memory.specs.After.{after}
 use Rattle.memory.proofs.After.{after_stays}
 use Rattle.pack.specs.declared.kernels.Kernel.{Kernel}
 use Rattle.kernel.specs.declared.dispatch.ThreadStop.{ThreadStop}
-use Rattle.kernel.specs.declared.dispatch.Ran.{Ran}
-use Rattle.kernel.specs.declared.dispatch.Ran.TheVariants.{Done, Stopped}
+use Rattle.std.specs.Prelude.{Result, Ok, Err}
 use Rattle.kernel.specs.Dispatch.{ShowsRan, if_done, going, thread_of, thread_more, threads_of}
 
 -- a dispatch that has a thread has threads in a group
@@ -30,19 +29,19 @@ module _ (limit : ℕ) (pack : List ℕ) (kernel : Kernel) (groups threads : ℕ
   one_thread-more n window' e = rw add-one (ap (thread_more limit pack kernel groups threads n) e)
 
   -- a dispatch that goes on after that thread
-  pub still-going : (n : ℕ) (window' window'' : List ℕ) (r : Ran) → threads_of n limit pack kernel groups threads window ≡ going window'
-      → ShowsRan r window'' (thread_of limit pack kernel groups threads n window') → r ≡ Done
+  pub still-going : (n : ℕ) (window' window'' : List ℕ) (r : Result Unit ThreadStop) → threads_of n limit pack kernel groups threads window ≡ going window'
+      → ShowsRan r window'' (thread_of limit pack kernel groups threads n window') → r ≡ Ok tt
       → threads_of (n + 1) limit pack kernel groups threads window ≡ going window''
   still-going n window' window'' r e s done = one_thread-more n window' e ∙ (rw (← done, s.answer, s.window))
 
   -- a stop ends the whole dispatch
-  pub stop_stays : (n m : ℕ) (window' window'' : List ℕ) (r : Ran) (stop : ThreadStop) → n + 1 ≤ m
+  pub stop_stays : (n m : ℕ) (window' window'' : List ℕ) (r : Result Unit ThreadStop) (stop : ThreadStop) → n + 1 ≤ m
       → threads_of n limit pack kernel groups threads window ≡ going window'
-      → ShowsRan r window'' (thread_of limit pack kernel groups threads n window') → r ≡ Stopped stop
-      → ShowsRan (Stopped stop) window'' (threads_of m limit pack kernel groups threads window)
+      → ShowsRan r window'' (thread_of limit pack kernel groups threads n window') → r ≡ Err stop
+      → ShowsRan (Err stop) window'' (threads_of m limit pack kernel groups threads window)
   unfolding threads_of thread_more if_done
   stop_stays n m window' window'' r stop h e s stopped =
       let here = one_thread-more n window' e in
-      let at-stop : (threads_of (n + 1) limit pack kernel groups threads window).ran ≡ Stopped stop = rw (here, ← s.answer, stopped) in
+      let at-stop : (threads_of (n + 1) limit pack kernel groups threads window).ran ≡ Err stop = rw (here, ← s.answer, stopped) in
       let stays = after_stays (thread_more limit pack kernel groups threads) (going window) (n + 1) m h (λ i. rw at-stop) in
       rw (stays, here) (record { answer = rw (← stopped) s.answer; window = s.window })

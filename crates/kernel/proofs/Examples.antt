@@ -28,7 +28,7 @@ use Rattle.kernel.specs.declared.step.Stop.{Stop}
 use Rattle.kernel.specs.declared.step.Stop.TheVariants.{OutsideTheWindow, OutOfSteps}
 use Rattle.kernel.specs.declared.thread.Thread.{Thread}
 use Rattle.kernel.specs.declared.step.Progress.TheVariants.{Stopped}
-use Rattle.kernel.specs.declared.dispatch.Ran.TheVariants.{Stopped as StoppedFor}
+use Rattle.std.specs.Prelude.{Err}
 use Rattle.pack.specs.Kernels.{kernel_count, first_word, kernel_words, kernel_of}
 use Rattle.kernel.specs.Registers.{scalar_of, with_scalar, start_registers}
 use Rattle.kernel.specs.Thread.{started, written, advanced, moved_to}
@@ -69,7 +69,7 @@ the_kernel = record { start = 16; length = 4 }
 module _ (limit groups threads : ℕ) (window : List ℕ) where
   -- a dispatch whose first thread stopped at this place and left the window as it was
   abbrev stopped_first : Stop → ℕ → Dispatched
-  stopped_first why place = record { ran = StoppedFor (stop_at why place 0 0); window = window }
+  stopped_first why place = record { ran = Err (stop_at why place 0 0); window = window }
 
   -- a dispatch whose first thread is stopped by a step that finds the window as it was
   stopped : (w n : ℕ) (t : Thread) (why : Stop) → 1 ≤ groups → 1 ≤ threads → n ≤ limit

@@ -13,8 +13,8 @@ use Rattle.words.specs.Arithmetic.{sum}
 use Rattle.words.proofs.Order.{lt_or_ge}
 use Rattle.memory.specs.declared.access.Width.{Width}
 use Rattle.memory.specs.declared.quad.Quad.{Quad}
-use Rattle.memory.specs.declared.address.Reach.{Reach}
-use Rattle.memory.specs.declared.address.Reach.TheVariants.{Inside, Outside}
+use Rattle.std.specs.Prelude.{Result, Ok, Err}
+use Rattle.memory.specs.declared.address.Outside.{Outside}
 use Rattle.memory.specs.Address.{reach_of, if_inside}
 use Rattle.memory.specs.Access.{bytes_of, with_value, store_of}
 use Rattle.memory.specs.Quad.{with_quad, store_quad_of}
@@ -64,12 +64,12 @@ off_is_not_14 e = let z : ◌≡◌ {A = ℕ} 0 1 = cc in omega arith
 
 module _ (P : State → Type 0) (t : Thread) (window : List ℕ) where
   -- a store is done inside the window or stops the thread
-  of_store : (reach : Reach) (stored : List ℕ)
-      → P (record { stepped = goes_on t; window = if_inside reach stored (λ first. window) }) → ((first : ℕ) → P (stopped_as (OutsideTheWindow first) t window))
-      → P (record { stepped = after_store reach t; window = if_inside reach stored (λ first. window) })
+  of_store : (reach : Result Unit Outside) (stored : List ℕ)
+      → P (record { stepped = goes_on t; window = if_inside reach stored (λ o. window) }) → ((first : ℕ) → P (stopped_as (OutsideTheWindow first) t window))
+      → P (record { stepped = after_store reach t; window = if_inside reach stored (λ o. window) })
   unfolding after_store if_inside
-  of_store Inside stored inside outside = inside
-  of_store (Outside first) stored inside outside = outside first
+  of_store (Ok u) stored inside outside = inside
+  of_store (Err o) stored inside outside = outside o.first
 
   -- a taken branch lands or stops the thread
   of_branch : (length place : ℕ) (multiple inside : Bool) → eqb (place % 4) 0 ≡ multiple → ltb place length ≡ inside

@@ -14,7 +14,7 @@ use Rattle.kernel.specs.declared.step.Stop.TheVariants.{OutOfSteps}
 use Rattle.kernel.specs.declared.step.Progress.{Progress}
 use Rattle.kernel.specs.declared.step.Progress.TheVariants.{Running, Ended, Stopped}
 use Rattle.kernel.specs.declared.dispatch.ThreadStop.{ThreadStop}
-use Rattle.kernel.specs.declared.dispatch.Ran.TheVariants.{Done, Stopped as StoppedFor}
+use Rattle.std.specs.Prelude.{Ok, Err}
 use Rattle.pack.specs.Kernels.{kernel_of}
 use Rattle.kernel.specs.Thread.{started}
 use Rattle.kernel.specs.Step.{State}
@@ -36,13 +36,13 @@ unfolding started
 starts_fresh g j threads groups = refl
 
 module _ (place group thread : ℕ) where
-  ran_done : (p : Progress) → (p ≡ Running → ⊥) → ran_of p place group thread ≡ Done → p ≡ Ended
+  ran_done : (p : Progress) → (p ≡ Running → ⊥) → ran_of p place group thread ≡ Ok tt → p ≡ Ended
   unfolding ran_of
   ran_done Running not e = absurd (not refl)
   ran_done Ended not e = refl
   ran_done (Stopped why) not e = cc
 
-  ran-why : (p : Progress) (stop : ThreadStop) → ran_of p place group thread ≡ StoppedFor stop → p ≡ Stopped stop.why
+  ran-why : (p : Progress) (stop : ThreadStop) → ran_of p place group thread ≡ Err stop → p ≡ Stopped stop.why
   unfolding ran_of
   ran-why Running stop e = cc
   ran-why Ended stop e = cc
@@ -56,12 +56,12 @@ pub record StopOf (group thread : ℕ) (s : State) (stop : ThreadStop) : Type 0 
 module _ (group thread : ℕ) (s : State) where
   -- a thread that has stopped is shown so
   pub stopped-shown : (why : Stop) → s.stepped.progress ≡ Stopped why
-      → (shown group thread s).ran ≡ StoppedFor (stop_at why s.stepped.thread.place group thread)
+      → (shown group thread s).ran ≡ Err (stop_at why s.stepped.thread.place group thread)
   unfolding shown ran_of
   stopped-shown why e = rw e
 
   -- and only one that has
-  pub shown-stopped : (stop : ThreadStop) → (shown group thread s).ran ≡ StoppedFor stop → StopOf group thread s stop
+  pub shown-stopped : (stop : ThreadStop) → (shown group thread s).ran ≡ Err stop → StopOf group thread s stop
   unfolding shown
   shown-stopped stop e =
       let why = ran-why s.stepped.thread.place group thread s.stepped.progress stop e in
@@ -85,7 +85,7 @@ module _ (limit : ℕ) (pack : List ℕ) (kernel : Kernel) (groups threads : ℕ
 
   module _ (g j : ℕ) (window : List ℕ) where
     -- a thread is done exactly if its run came to its end
-    pub thread_done : ((shown g j (run_of_thread g j window)).ran ≡ Done) ↔ ((run_of_thread g j window).stepped.progress ≡ Ended)
+    pub thread_done : ((shown g j (run_of_thread g j window)).ran ≡ Ok tt) ↔ ((run_of_thread g j window).stepped.progress ≡ Ended)
     unfolding shown ran_of
     thread_done = (
       ran_done _ g j _ (run_not_running limit pack kernel (started g j threads groups) window (starts_fresh g j threads groups)),
@@ -93,7 +93,7 @@ module _ (limit : ℕ) (pack : List ℕ) (kernel : Kernel) (groups threads : ℕ
     )
 
     -- it is stopped with 14 exactly if it is still running after the limit's steps
-    pub thread_out_of_steps : ((shown g j (run_of_thread g j window)).ran ≡ StoppedFor (stop_at OutOfSteps (run_of_thread g j window).stepped.thread.place g j))
+    pub thread_out_of_steps : ((shown g j (run_of_thread g j window)).ran ≡ Err (stop_at OutOfSteps (run_of_thread g j window).stepped.thread.place g j))
         ↔ ((steps_of limit limit pack kernel (started g j threads groups) window).stepped.progress ≡ Running)
     thread_out_of_steps =
         let run = out_of_steps limit pack kernel (started g j threads groups) window (starts_fresh g j threads groups) in
@@ -110,7 +110,7 @@ module _ (limit : ℕ) (pack : List ℕ) (kernel : Kernel) (groups threads : ℕ
     one_more-thread n = refl
 
     -- a stop ends the whole dispatch, and the window stays as it was left
-    pub stop-ends : (n m : ℕ) (stop : ThreadStop) → n ≤ m → (first n).ran ≡ StoppedFor stop → first m ≡ first n
+    pub stop-ends : (n m : ℕ) (stop : ThreadStop) → n ≤ m → (first n).ran ≡ Err stop → first m ≡ first n
     unfolding threads_of thread_more if_done
     stop-ends n m stop h e = after_stays (thread_more limit pack kernel groups threads) (going window) n m h (λ i. rw e)
 
@@ -123,13 +123,13 @@ module _ (limit : ℕ) (pack : List ℕ) (kernel : Kernel) (groups threads : ℕ
 
     -- the first thread that stops ends the dispatch, which leaves what that thread's run left
     pub stopped_by : (n i : ℕ) (window' : List ℕ) (stop : ThreadStop) → i < n → first i ≡ going window'
-        → (thread_of limit pack kernel groups threads i window').ran ≡ StoppedFor stop
+        → (thread_of limit pack kernel groups threads i window').ran ≡ Err stop
         → first n ≡ thread_of limit pack kernel groups threads i window'
     stopped_by n i window' stop h e stopped =
         let here = one_thread-more limit pack kernel groups threads window i window' e in
         stop-ends (i + 1) n stop (omega arith) (rw here stopped) ∙ here
 
-    pub first_stops : (n : ℕ) (stop : ThreadStop) → 0 < n → (shown 0 0 (run_of_thread 0 0 window)).ran ≡ StoppedFor stop
+    pub first_stops : (n : ℕ) (stop : ThreadStop) → 0 < n → (shown 0 0 (run_of_thread 0 0 window)).ran ≡ Err stop
         → first n ≡ shown 0 0 (run_of_thread 0 0 window)
     unfolding thread_of
     first_stops n stop h stopped =

@@ -13,9 +13,9 @@ use Rattle.memory.proofs.Places.{Bytes}
 use Rattle.memory.proofs.Lengths.{store_length, store_quad_length}
 use Rattle.memory.proofs.ByteSized.{store_bytes, store_quad_bytes}
 use Rattle.pack.specs.declared.kernels.Kernel.{Kernel}
+use Rattle.kernel.specs.declared.dispatch.ThreadStop.{ThreadStop}
 use Rattle.kernel.specs.declared.thread.Thread.{Thread}
-use Rattle.kernel.specs.declared.dispatch.Ran.{Ran}
-use Rattle.kernel.specs.declared.dispatch.Ran.TheVariants.{Done, Stopped as StoppedFor}
+use Rattle.std.specs.Prelude.{Result, Ok, Err}
 use Rattle.pack.specs.Kernels.{kernel_of}
 use Rattle.kernel.specs.Step.{step_of}
 use Rattle.kernel.specs.Run.{running, steps_of, run_of}
@@ -50,11 +50,11 @@ module _ (P : List ℕ → Type 0) (kept : KeptByStores P) (limit : ℕ) (pack :
     run-keeps t window h = steps_keep _ t window h
 
     module _ (groups threads : ℕ) where
-      thread-keeps : (i : ℕ) (r : Ran) (window : List ℕ) → P window
+      thread-keeps : (i : ℕ) (r : Result Unit ThreadStop) (window : List ℕ) → P window
           → P (thread_more limit pack kernel groups threads i (record { ran = r; window = window })).window
       unfolding thread_more if_done thread_of shown
-      thread-keeps i Done window h = run-keeps _ window h
-      thread-keeps i (StoppedFor why) window h = h
+      thread-keeps i (Ok u) window h = run-keeps _ window h
+      thread-keeps i (Err stop) window h = h
 
       pub threads_keep : (n : ℕ) (window : List ℕ) → P window → P (threads_of n limit pack kernel groups threads window).window
       unfolding threads_of

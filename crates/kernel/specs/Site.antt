@@ -1,9 +1,8 @@
 -- Where a dispatch stopped: the four numbers that are reported of a stop.
-use Rattle.std.specs.Prelude.{ℕ}
+use Rattle.std.specs.Prelude.{ℕ, Result, Ok, Err}
 use Rattle.kernel.specs.declared.step.Stop.{Stop}
 use Rattle.kernel.specs.declared.step.Stop.TheVariants.{NotListed, OffTheKernel, OutsideTheWindow, OutOfSteps}
-use Rattle.kernel.specs.declared.dispatch.Ran.{Ran}
-use Rattle.kernel.specs.declared.dispatch.Ran.TheVariants.{Done, Stopped}
+use Rattle.kernel.specs.declared.dispatch.ThreadStop.{ThreadStop}
 use Rattle.kernel.specs.declared.site.Site.{Site}
 
 -- address, place, group and thread
@@ -22,6 +21,6 @@ address_of (OutsideTheWindow first) = first
 address_of OutOfSteps = 0
 
 -- of a dispatch that is done four zeros; else the address, and the place, group and thread of the thread that stopped
-unfoldable pub site_of : Ran → Site
-site_of Done = no_site
-site_of (Stopped stop) = site_at (address_of stop.why) stop.place stop.group stop.thread
+unfoldable pub site_of : Result Unit ThreadStop → Site
+site_of (Ok u) = no_site
+site_of (Err stop) = site_at (address_of stop.why) stop.place stop.group stop.thread

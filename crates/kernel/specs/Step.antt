@@ -1,8 +1,8 @@
 -- One step of a thread. The order is: 14, running off the end (12), 11, then the branch (12) or the address (13).
-use Rattle.std.specs.Prelude.{ℕ, ◌%◌, ◌≡◌, Bool, cond, ◌&&◌, List, leb, ltb, eqb}
+use Rattle.std.specs.Prelude.{ℕ, ◌%◌, ◌≡◌, Bool, cond, ◌&&◌, List, leb, ltb, eqb, Result}
 use Rattle.std.proofs.Math.ListN as ListN
 use Rattle.words.specs.Arithmetic.{sum}
-use Rattle.memory.specs.declared.address.Reach.{Reach}
+use Rattle.memory.specs.declared.address.Outside.{Outside}
 use Rattle.memory.specs.Address.{reach_of, if_inside}
 use Rattle.memory.specs.Access.{bytes_of, store_of}
 use Rattle.memory.specs.Quad.{store_quad_of}
@@ -58,8 +58,8 @@ branched length offset t =
     (stops OffTheKernel t)
 
 -- a store not wholly in the window stops the thread, and the first address that is not inside is handed on
-unfoldable pub after_store : Reach → Thread → Stepped
-after_store reach t = if_inside reach (goes_on t) (λ first. stops (OutsideTheWindow first) t)
+unfoldable pub after_store : Result Unit Outside → Thread → Stepped
+after_store reach t = if_inside reach (goes_on t) (λ o. stops (OutsideTheWindow o.first) t)
 
 -- an effect done to a thread and its window, in a kernel of `length` bytes
 unfoldable pub applied : ℕ → ℕ → Effect → Thread → List ℕ → State

@@ -2,18 +2,13 @@
 use Rattle.std.specs.Prelude.{ℕ, ◌+◌}
 use Rattle.words.specs.Arithmetic.{sum}
 use Rattle.memory.specs.declared.quad.Quad.{Quad}
-use Rattle.kernel.specs.Registers.{start_registers, scalar_of, with_scalar, with_vector}
+use Rattle.kernel.specs.Registers.{start_registers, with_scalar, with_vector}
 use Rattle.kernel.specs.declared.thread.Thread.{Thread}
-use Rattle.kernel.specs.declared.thread.Reading.{Reading}
 
 -- a thread's start: the first instruction, no step taken
 unfoldable pub started : ℕ → ℕ → ℕ → ℕ → Thread
 started group thread threads groups =
     record { registers = start_registers group thread threads groups; place = 0; steps = 0 }
-
--- the thread as it was, and what its scalar register n reads
-unfoldable pub read_of : Thread → ℕ → Reading
-read_of t n = record { thread = t; value = scalar_of t.registers n }
 
 -- the thread with x in scalar register n
 unfoldable pub written : Thread → ℕ → ℕ → Thread

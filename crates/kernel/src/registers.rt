@@ -2,13 +2,13 @@
 ghost use Rattle.std.specs.Prelude.{◌≡◌, ◌%◌};
 ghost use Rattle.kernel.specs.Registers.{start_registers, scalar_of, with_scalar, with_vector};
 
-use instruction::vectors::with_quad;
+use instruction::vectors::{to_four_words, with_quad};
 use memory::quad::Quad;
 
 #[derive(Clone, Copy)]
 pub struct Registers {
     pub scalars: [u32; Registers::COUNT],
-    pub vectors: [u32; 4 * Registers::COUNT],
+    pub vectors: [Quad; Registers::COUNT],
 }
 
 impl Registers {
@@ -34,13 +34,13 @@ impl Registers {
         scalars[Registers::GROUPS] = groups;
         Registers {
             scalars,
-            vectors: [0u32; 4 * Registers::COUNT],
+            vectors: [to_four_words(0); Registers::COUNT],
         }
     }
 
     #[tactic(auto, unfolding(crate::specs::Registers::scalar_of))]
-    pub fn scalar(self, n: u32) -> u32
-        ensures { result ≡ scalar_of self (n % 32) }
+    pub fn scalar(&self, n: u32) -> u32
+        ensures { result ≡ scalar_of self.now (n % 32) }
     {
         let at = n as usize % Registers::COUNT;
         if at == 0 { 0 } else { self.scalars[at] }
@@ -59,9 +59,7 @@ impl Registers {
     pub fn with_vector(mut self, n: u32, quad: Quad) -> Self
         ensures { result ≡ with_vector self (n % 32) quad }
     {
-        let words = self.vectors;
-        let written = with_quad(words, n, quad);
-        self.vectors = written;
+        self.vectors = with_quad(self.vectors, n, quad);
         self
     }
 }

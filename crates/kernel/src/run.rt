@@ -1,5 +1,4 @@
 // A thread's run: its steps one after another, to its end or first stop.
-ghost use Rattle.std.specs.Prelude.{◌^◌, ◌<◌};
 ghost use Rattle.kernel.specs.Step.{Shows};
 ghost use Rattle.kernel.specs.Run.{run_of};
 
@@ -8,21 +7,16 @@ use crate::thread::Thread;
 use pack::kernels::Kernel;
 
 pub fn run(thread: Thread, pack: &[u8], kernel: Kernel, window: &mut [u8], limit: u32) -> Stepped
-    requires { kernel.start < 2 ^ 62 }
     ensures { Shows result window.new (run_of limit pack.now kernel thread window.old) }
 {
     let mut at = thread;
-    let mut taken: u64 = 0;
-    while taken <= limit as u64 {
+    for _ in 0..=limit {
         let next = step(at, pack, kernel, window, limit);
-        let progress = next.progress;
-        match progress {
-            Progress::Running => {}
+        match next.progress {
+            Progress::Running => at = next.thread,
             Progress::Ended => return next,
             Progress::Stopped(_) => return next,
         }
-        at = next.thread;
-        taken += 1;
     }
     Stepped {
         thread: at,

@@ -2,10 +2,10 @@
 ghost use Rattle.std.specs.Prelude.{◌≡◌};
 ghost use Rattle.kernel.specs.Site.{no_site, address_of, site_of};
 
-use crate::dispatch::Ran;
+use crate::dispatch::ThreadStop;
 use crate::step::Stop;
 
-#[derive(Clone, Copy)]
+#[derive(Clone, Copy, Debug, PartialEq, Eq)]
 pub struct Site {
     // The first address that is not inside the window, of a load or store that reached it; else 0.
     pub address: u32,
@@ -40,19 +40,16 @@ fn address_of(why: Stop) -> u32
 }
 
 #[tactic(auto, unfolding(crate::specs::Site::site_of))]
-pub fn site_of(ran: Ran) -> Site
+pub fn site_of(ran: Result<(), ThreadStop>) -> Site
     ensures { result ≡ site_of ran }
 {
     match ran {
-        Ran::Done => Site::none(),
-        Ran::Stopped(stop) => {
-            let why = stop.why;
-            Site {
-                address: address_of(why),
-                place: stop.place,
-                group: stop.group,
-                thread: stop.thread,
-            }
-        }
+        Ok(()) => Site::none(),
+        Err(stop) => Site {
+            address: address_of(stop.why),
+            place: stop.place,
+            group: stop.group,
+            thread: stop.thread,
+        },
     }
 }

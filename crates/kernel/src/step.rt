@@ -7,14 +7,13 @@ use instruction::decode::decode;
 use instruction::effect::{Effect, effect_of};
 use instruction::list::Instr;
 use memory::access::store;
-use memory::address::Reach;
+use memory::address::Outside;
 use memory::quad::store_quad;
 use pack::kernels::{Kernel, code_word};
 use words::arithmetic::add;
-use words::choice::both;
 
 // Why a thread stopped before its end.
-#[derive(Clone, Copy)]
+#[derive(Clone, Copy, Debug, PartialEq, Eq)]
 pub enum Stop {
     // The word is not in the instruction list.
     NotListed,
@@ -26,7 +25,7 @@ pub enum Stop {
     OutOfSteps,
 }
 
-#[derive(Clone, Copy)]
+#[derive(Clone, Copy, Debug, PartialEq, Eq)]
 pub enum Progress {
     Running,
     Ended,
@@ -77,7 +76,7 @@ fn branch(thread: Thread, offset: u32, length: usize) -> Stepped
     ensures { result ≡ branched length offset thread }
 {
     let place = add(thread.place, offset);
-    if both(place % 4 == 0, (place as usize) < length) {
+    if (place % 4 == 0) & ((place as usize) < length) {
         Stepped {
             thread: thread.move_to(place),
             progress: Progress::Running,
@@ -88,13 +87,13 @@ fn branch(thread: Thread, offset: u32, length: usize) -> Stepped
 }
 
 #[tactic(auto, unfolding(crate::specs::Step::after_store, memory::specs::Address::if_inside))]
-fn after_store(thread: Thread, reach: Reach) -> Stepped
+fn after_store(thread: Thread, stored: Result<(), Outside>) -> Stepped
     requires { thread.steps + 1 < 2 ^ 32 }
-    ensures { result ≡ after_store reach thread }
+    ensures { result ≡ after_store stored thread }
 {
-    match reach {
-        Reach::Inside => go_on(thread),
-        Reach::Outside(first) => stopped(thread, Stop::OutsideTheWindow(first)),
+    match stored {
+        Ok(()) => go_on(thread),
+        Err(outside) => stopped(thread, Stop::OutsideTheWindow(outside.first)),
     }
 }
 
@@ -116,25 +115,19 @@ fn apply(thread: Thread, rd: u32, effect: Effect, length: usize, window: &mut [u
     }
 }
 
-#[tactic(auto, unfolding(crate::specs::Thread::read_of, crate::specs::Step::executed))]
+#[tactic(auto, unfolding(crate::specs::Step::executed))]
 fn execute(thread: Thread, instr: Instr, length: usize, window: &mut [u8]) -> Stepped
     requires { (thread.steps + 1 < 2 ^ 32) × (instr.rd < 32) × (instr.rs1 < 32) × (instr.rs2 < 32) }
     ensures { Shows result window.new (executed length instr thread window.old) }
 {
-    let first = thread.read(instr.rs1);
-    let read_once = first.thread;
-    let second = read_once.read(instr.rs2);
-    let read_twice = second.thread;
-    let registers = read_twice.registers;
-    let vectors = registers.vectors;
-    let op = instr.op;
-    let effect = effect_of(op, first.value, second.value, &vectors, window);
-    apply(read_twice, instr.rd, effect, length, window)
+    let x = thread.read(instr.rs1);
+    let y = thread.read(instr.rs2);
+    let effect = effect_of(instr.op, x, y, &thread.registers.vectors, window);
+    apply(thread, instr.rd, effect, length, window)
 }
 
 #[tactic(auto, unfolding(crate::specs::Step::step_of, instruction::specs::Decode::decoded))]
 pub fn step(thread: Thread, pack: &[u8], kernel: Kernel, window: &mut [u8], limit: u32) -> Stepped
-    requires { kernel.start < 2 ^ 62 }
     ensures { Shows result window.new (step_of limit pack.now kernel thread window.old) }
 {
     if limit <= thread.steps {

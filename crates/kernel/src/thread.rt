@@ -1,7 +1,7 @@
-// A thread: its registers, its place in the kernel's bytes and the steps it has taken. Each method hands the state back,
-// a read with the value beside it.
+// A thread: its registers, its place in the kernel's bytes and the steps it has taken. A method that changes it hands it back.
 ghost use Rattle.std.specs.Prelude.{◌≡◌, ◌+◌, ◌%◌, ◌^◌, ◌<◌};
-ghost use Rattle.kernel.specs.Thread.{started, read_of, written, written_vector, moved_to, advanced};
+ghost use Rattle.kernel.specs.Registers.{scalar_of};
+ghost use Rattle.kernel.specs.Thread.{started, written, written_vector, moved_to, advanced};
 
 use crate::registers::Registers;
 use memory::quad::Quad;
@@ -12,13 +12,6 @@ pub struct Thread {
     pub registers: Registers,
     pub place: u32,
     pub steps: u32,
-}
-
-// A register's value, and the thread that it was read from.
-#[derive(Clone, Copy)]
-pub struct Reading {
-    pub thread: Thread,
-    pub value: u32,
 }
 
 impl Thread {
@@ -33,23 +26,17 @@ impl Thread {
         }
     }
 
-    #[tactic(auto, unfolding(crate::specs::Thread::read_of))]
-    pub fn read(self, n: u32) -> Reading
-        ensures { result ≡ read_of self (n % 32) }
+    pub fn read(&self, n: u32) -> u32
+        ensures { result ≡ scalar_of self.now.registers (n % 32) }
     {
-        let registers = self.registers;
-        Reading {
-            thread: self,
-            value: registers.scalar(n),
-        }
+        self.registers.scalar(n)
     }
 
     #[tactic(auto, unfolding(crate::specs::Thread::written))]
     pub fn write(mut self, n: u32, value: u32) -> Self
         ensures { result ≡ written self (n % 32) value }
     {
-        let registers = self.registers;
-        self.registers = registers.with_scalar(n, value);
+        self.registers = self.registers.with_scalar(n, value);
         self
     }
 
@@ -57,8 +44,7 @@ impl Thread {
     pub fn write_vector(mut self, n: u32, quad: Quad) -> Self
         ensures { result ≡ written_vector self (n % 32) quad }
     {
-        let registers = self.registers;
-        self.registers = registers.with_vector(n, quad);
+        self.registers = self.registers.with_vector(n, quad);
         self
     }
 
@@ -69,7 +55,7 @@ impl Thread {
         ensures { result ≡ moved_to self place }
     {
         self.place = place;
-        self.steps = self.steps + 1;
+        self.steps += 1;
         self
     }
 
@@ -79,7 +65,6 @@ impl Thread {
         requires { self.steps + 1 < 2 ^ 32 }
         ensures { result ≡ advanced self }
     {
-        let next = add(self.place, 4);
-        self.move_to(next)
+        self.move_to(add(self.place, 4))
     }
 }

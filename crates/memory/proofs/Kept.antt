@@ -4,15 +4,15 @@ use mathlib.Core.List.{List}
 use Prim.Native.Nat.{ℕ, ◌+◌, ◌*◌, ◌≤◌, ◌<◌, ◌^◌}
 use native.Mathlib.Omega.{arith}
 use lib.ListN.{length, get_or, set}
-use Rattle.memory.specs.declared.address.Reach.{Reach}
-use Rattle.memory.specs.declared.address.Reach.TheVariants.{Inside, Outside}
+use Rattle.std.specs.Prelude.{Result, Ok, Err}
+use Rattle.memory.specs.declared.address.Outside.{Outside}
 use Rattle.memory.specs.declared.access.Width.{Width}
 use Rattle.memory.specs.declared.access.Width.TheVariants.{Byte, Half, Word}
 use Rattle.memory.specs.declared.quad.Quad.{Quad}
 use Rattle.memory.specs.Address.{reach_of, if_inside}
 use Rattle.memory.specs.Place.{with_byte, with_half, with_word}
 use Rattle.memory.specs.Access.{bytes_of, with_value, store_of}
-use Rattle.memory.specs.Quad.{with_quad, store_quad_of}
+use Rattle.memory.specs.Quad.{quad_word, with_quad, store_quad_of}
 use Rattle.memory.specs.Rectangle.{words_put, pixels_put}
 use Rattle.memory.specs.Transfer.{transferred}
 use Rattle.memory.proofs.After.{after-keeps}
@@ -22,10 +22,10 @@ abbrev pub Keeps : (List ℕ → Type 0) → ℕ → ℕ → Type 0
 Keeps P low high = (j b : ℕ) (x : List ℕ) → low ≤ j → j < high → b < 2 ^ 8 → P x → P (set x j b)
 
 -- the choice by reach keeps what both sides have
-pub if_inside-keeps : (P : List ℕ → Type 0) (r : Reach) (x y : List ℕ) → P x → P y → P (if_inside r x (λ first. y))
+pub if_inside-keeps : (P : List ℕ → Type 0) (r : Result Unit Outside) (x y : List ℕ) → P x → P y → P (if_inside r x (λ o. y))
 unfolding if_inside
-if_inside-keeps P Inside x y hx hy = hx
-if_inside-keeps P (Outside first) x y hx hy = hy
+if_inside-keeps P (Ok u) x y hx hy = hx
+if_inside-keeps P (Err o) x y hx hy = hy
 
 module _ (P : List ℕ → Type 0) where
   -- fewer places keep what more places keep
@@ -60,21 +60,6 @@ module _ (P : List ℕ → Type 0) where
   unfolding store_of
   store_keeps m width a v keeps h = if_inside-keeps P (reach_of (length m) a (bytes_of width)) _ _ (with_value-keeps m width a v keeps h) h
 
-  pub with_quad-keeps : (m : List ℕ) (a : ℕ) (q : Quad) → Keeps P a (a + 16) → P m → P (with_quad m a q)
-  unfolding with_quad
-  with_quad-keeps m a q keeps h =
-      with_word-keeps _ (a + 12) q.w3 (part (a + 12) (omega arith) (omega arith))
-      (with_word-keeps _ (a + 8) q.w2 (part (a + 8) (omega arith) (omega arith))
-      (with_word-keeps _ (a + 4) q.w1 (part (a + 4) (omega arith) (omega arith))
-      (with_word-keeps m a q.w0 (part a (omega arith) (omega arith)) h)))
-    where
-      part : (b : ℕ) → a ≤ b → b + 4 ≤ a + 16 → Keeps P b (b + 4)
-      part b l u = keeps_within a (a + 16) b (b + 4) l u keeps
-
-  pub store_quad_keeps : (m : List ℕ) (a : ℕ) (q : Quad) → Keeps P a (a + 16) → P m → P (store_quad_of m a q)
-  unfolding store_quad_of
-  store_quad_keeps m a q keeps h = if_inside-keeps P (reach_of (length m) a 16) _ _ (with_quad-keeps m a q keeps h) h
-
   pub words_put-keeps : (address count : ℕ) (word : ℕ → ℕ) (m : List ℕ) → Keeps P address (address + 4 * count) → P m
       → P (words_put address count word m)
   unfolding words_put
@@ -82,6 +67,14 @@ module _ (P : List ℕ → Type 0) where
       after-keeps _ P count m
       (λ i m' below. with_word-keeps m' (address + 4 * i) (word i) (keeps_within address (address + 4 * count) _ _ (omega arith) (omega arith) keeps))
       h
+
+  pub with_quad-keeps : (m : List ℕ) (a : ℕ) (q : Quad) → Keeps P a (a + 16) → P m → P (with_quad m a q)
+  unfolding with_quad
+  with_quad-keeps m a q keeps h = words_put-keeps a 4 (quad_word q) m keeps h
+
+  pub store_quad_keeps : (m : List ℕ) (a : ℕ) (q : Quad) → Keeps P a (a + 16) → P m → P (store_quad_of m a q)
+  unfolding store_quad_of
+  store_quad_keeps m a q keeps h = if_inside-keeps P (reach_of (length m) a 16) _ _ (with_quad-keeps m a q keeps h) h
 
   pub pixels_put-keeps : (address stride width height : ℕ) (pixel : ℕ → ℕ → ℕ) (m : List ℕ)
       → ((y : ℕ) → y < height → Keeps P (address + y * stride) (address + y * stride + 4 * width)) → P m

@@ -2,27 +2,26 @@
 -- Assumes nothing.
 use mathlib.Core.Path.{◌≡◌, refl}
 use mathlib.Core.Bool.{Bool, true, false}
-use mathlib.Core.Logic.{◌⊎◌, inl, inr, ⊎_elim}
+use mathlib.Core.Logic.{◌⊎◌, inl, inr}
 use Prim.Native.Nat.{ℕ, ◌+◌, ◌^◌, ◌≤◌, ◌<◌}
-use native.Mathlib.Omega.{arith}
 use lib.Dec.{leb}
 use native.Mathlib.Nat.{mod-eq_of_lt}
 use borrow.Author.Tests.{le-leb, lt-leb, lt-ltb, le-ltb, leb-true, leb-false}
-use Rattle.memory.specs.declared.address.Reach.TheVariants.{Inside, Outside}
-use Rattle.memory.specs.Address.{first_outside, reach_of}
+use Rattle.std.specs.Prelude.{Ok, Err}
+use Rattle.memory.specs.Address.{first_outside, outside_at, reach_of}
 
 -- what the test's answer says of the numbers, either way
 abbrev pub ReachCases : ℕ → ℕ → ℕ → Type 0
 ReachCases length address count =
-    ((address + count ≤ length) × (reach_of length address count ≡ Inside))
-    ⊎ ((length < address + count) × (reach_of length address count ≡ Outside (first_outside length address)))
+    ((address + count ≤ length) × (reach_of length address count ≡ Ok tt))
+    ⊎ ((length < address + count) × (reach_of length address count ≡ Err (outside_at (first_outside length address))))
 
 module _ (length address count : ℕ) where
-  pub reach_inside : address + count ≤ length → reach_of length address count ≡ Inside
+  pub reach_inside : address + count ≤ length → reach_of length address count ≡ Ok tt
   unfolding reach_of
   reach_inside h = rw (le-leb (address + count) length h)
 
-  pub reach_outside : length < address + count → reach_of length address count ≡ Outside (first_outside length address)
+  pub reach_outside : length < address + count → reach_of length address count ≡ Err (outside_at (first_outside length address))
   unfolding reach_of
   reach_outside h = rw (lt-leb (address + count) length h)
 
@@ -32,9 +31,6 @@ module _ (length address count : ℕ) where
       go : (b : Bool) → leb (address + count) length ≡ b → ReachCases length address count
       go true e = inl (leb-true _ _ e, reach_inside (leb-true _ _ e))
       go false e = inr (leb-false _ _ e, reach_outside (leb-false _ _ e))
-
-  pub inside_reach : reach_of length address count ≡ Inside → address + count ≤ length
-  inside_reach e = ⊎_elim (λ h. h.0) (λ h. let z : ◌≡◌ {A = ℕ} 0 1 = cc in omega arith) reach_cases
 
 module _ (length address : ℕ) where
   -- an access that does not begin inside tells its own address

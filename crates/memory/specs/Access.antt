@@ -1,10 +1,9 @@
 -- Loads and stores of a byte, a half or a word, at any address and alignment.
-use Rattle.std.specs.Prelude.{List, ℕ, length, get_or}
+use Rattle.std.specs.Prelude.{List, ℕ, length, get_or, Result, Ok, Err}
 use Rattle.words.specs.Signed.{extended}
 use Rattle.memory.specs.declared.access.Width.{Width}
 use Rattle.memory.specs.declared.access.Width.TheVariants.{Byte, Half, Word}
-use Rattle.memory.specs.declared.access.Loaded.{Loaded}
-use Rattle.memory.specs.declared.access.Loaded.TheVariants.{Value, Outside}
+use Rattle.memory.specs.declared.address.Outside.{Outside}
 use Rattle.memory.specs.Address.{reach_of, if_inside}
 use Rattle.memory.specs.Place.{half_at, word_at, with_byte, with_half, with_word}
 
@@ -27,9 +26,9 @@ with_value m Half a v = with_half m a v
 with_value m Word a v = with_word m a v
 
 -- a load's answer
-unfoldable pub load_of : List ℕ → Width → ℕ → Loaded
-load_of m width a = if_inside (reach_of (length m) a (bytes_of width)) (Value (value_at m width a)) Outside
+unfoldable pub load_of : List ℕ → Width → ℕ → Result ℕ Outside
+load_of m width a = if_inside (reach_of (length m) a (bytes_of width)) (Ok (value_at m width a)) Err
 
 -- the window after a store; it is as it was where the bytes do not lie inside
 unfoldable pub store_of : List ℕ → Width → ℕ → ℕ → List ℕ
-store_of m width a v = if_inside (reach_of (length m) a (bytes_of width)) (with_value m width a v) (λ first. m)
+store_of m width a v = if_inside (reach_of (length m) a (bytes_of width)) (with_value m width a v) (λ o. m)

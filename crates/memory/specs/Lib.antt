@@ -2,8 +2,8 @@ pub mod After
 pub mod Address
 pub mod Place
 pub mod Access
-pub mod Quad
 pub mod Rectangle
+pub mod Quad
 pub mod Copy
 pub mod Transfer
 pub mod Window

@@ -3,22 +3,15 @@ ghost use Rattle.std.specs.Prelude.{◌≡◌, ◌+◌, ◌≤◌, length};
 ghost use Rattle.memory.specs.Address.{reach_of};
 ghost use Rattle.memory.specs.Access.{bytes_of, value_at, with_value, load_of, store_of};
 
-use crate::address::{Reach, test};
+use crate::address::{Outside, test};
 use crate::place::{half_at, put_byte, put_half, put_word, word_at};
 use words::signed::extend;
 
-#[derive(Clone, Copy)]
+#[derive(Clone, Copy, Debug, PartialEq, Eq)]
 pub enum Width {
     Byte,
     Half,
     Word,
-}
-
-#[derive(Clone, Copy)]
-pub enum Loaded {
-    Value(u32),
-    // The first address that is not inside.
-    Outside(u32),
 }
 
 fn bytes_of(width: Width) -> usize
@@ -31,7 +24,7 @@ fn bytes_of(width: Width) -> usize
     }
 }
 
-#[tactic(auto, unfolding(crate::specs::Access::value_at))]
+#[tactic(auto, using(crate::proofs::Places::half_fits), unfolding(crate::specs::Access::value_at))]
 fn value_at(window: &[u8], width: Width, at: usize) -> u32
     requires { at + bytes_of width ≤ length window.now }
     ensures { result ≡ value_at window.now width at }
@@ -56,24 +49,18 @@ fn put_value(window: &mut [u8], width: Width, at: usize, value: u32)
 }
 
 #[tactic(auto, unfolding(crate::specs::Access::load_of, crate::specs::Address::if_inside))]
-pub fn load(window: &[u8], width: Width, address: u32) -> Loaded
+pub fn load(window: &[u8], width: Width, address: u32) -> Result<u32, Outside>
     ensures { result ≡ load_of window.now width address }
 {
-    match test(window.len(), address, bytes_of(width)) {
-        Reach::Inside => Loaded::Value(value_at(window, width, address as usize)),
-        Reach::Outside(first) => Loaded::Outside(first),
-    }
+    test(window.len(), address, bytes_of(width))?;
+    Ok(value_at(window, width, address as usize))
 }
 
 #[tactic(auto, unfolding(crate::specs::Access::store_of, crate::specs::Address::if_inside))]
-pub fn store(window: &mut [u8], width: Width, address: u32, value: u32) -> Reach
+pub fn store(window: &mut [u8], width: Width, address: u32, value: u32) -> Result<(), Outside>
     ensures { (result ≡ reach_of (length window.old) address (bytes_of width)) × (window.new ≡ store_of window.old width address value) }
 {
-    match test(window.len(), address, bytes_of(width)) {
-        Reach::Inside => {
-            put_value(window, width, address as usize, value);
-            Reach::Inside
-        }
-        Reach::Outside(first) => Reach::Outside(first),
-    }
+    test(window.len(), address, bytes_of(width))?;
+    put_value(window, width, address as usize, value);
+    Ok(())
 }

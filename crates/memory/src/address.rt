@@ -1,12 +1,11 @@
 // The address test.
-ghost use Rattle.std.specs.Prelude.{◌≡◌};
+ghost use Rattle.std.specs.Prelude.{◌≡◌, ◌+◌, ◌≤◌, OnOk};
 ghost use Rattle.memory.specs.Address.{first_outside, reach_of};
 
-#[derive(Clone, Copy)]
-pub enum Reach {
-    Inside,
-    // The first address that is not inside.
-    Outside(u32),
+// An access that is not wholly inside, and the first address that is not.
+#[derive(Clone, Copy, Debug, PartialEq, Eq)]
+pub struct Outside {
+    pub first: u32,
 }
 
 // The first address that is not inside, of an access that is not wholly so.
@@ -22,13 +21,15 @@ fn first_outside(length: usize, address: u32) -> u32
 }
 
 // Whether `count` bytes from `address` on lie wholly in a window of `length` bytes, or the first address that does not.
-pub fn test(length: usize, address: u32, count: usize) -> Reach
-    ensures { result ≡ reach_of length address count }
+#[tactic(auto, using(crate::proofs::Reach::reach_inside, crate::proofs::Reach::reach_outside))]
+pub fn test(length: usize, address: u32, count: usize) -> Result<(), Outside>
+    ensures reach { result ≡ reach_of length address count }
+    ensures inside { OnOk result (address + count ≤ length) }
 {
-    if count <= length {
-        if address as usize <= length - count {
-            return Reach::Inside;
-        }
+    if count <= length && address as usize <= length - count {
+        return Ok(());
     }
-    Reach::Outside(first_outside(length, address))
+    Err(Outside {
+        first: first_outside(length, address),
+    })
 }

@@ -6,6 +6,7 @@ ghost use Rattle.memory.specs.Rectangle.{rectangle_end, RowsApart};
 ghost use Rattle.memory.specs.Copy.{copied, blitted};
 
 use crate::place::{put_word, word_at};
+use crate::rectangle::Rectangle;
 
 // Which of `count` words or rows comes at a turn.
 fn at_turn(to: usize, from: usize, count: usize, turn: usize) -> usize
@@ -27,15 +28,15 @@ pub fn copy(window: &mut [u8], to: usize, from: usize, words: usize)
 }
 
 #[tactic(auto, unfolding(crate::specs::Copy::blitted))]
-pub fn blit(window: &mut [u8], to: usize, from: usize, stride: usize, width: usize, height: usize)
-    requires { (rectangle_end to stride width height ≤ length window.old) × (rectangle_end from stride width height ≤ length window.old) × RowsApart stride width height }
-    ensures { window.new ≡ blitted to from stride width height window.old }
+pub fn blit(window: &mut [u8], to: usize, from: usize, rectangle: Rectangle)
+    requires { (rectangle_end to rectangle.stride rectangle.width rectangle.height ≤ length window.old) × (rectangle_end from rectangle.stride rectangle.width rectangle.height ≤ length window.old) × RowsApart rectangle.stride rectangle.width rectangle.height }
+    ensures { window.new ≡ blitted to from rectangle.stride rectangle.width rectangle.height window.old }
 {
-    if width == 0 {
+    if rectangle.width == 0 {
         return;
     }
-    for i in 0..height {
-        let row = at_turn(to, from, height, i) * stride;
-        copy(window, to + row, from + row, width);
+    for i in 0..rectangle.height {
+        let row = at_turn(to, from, rectangle.height, i) * rectangle.stride;
+        copy(window, to + row, from + row, rectangle.width);
     }
 }

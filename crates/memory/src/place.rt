@@ -32,7 +32,7 @@ pub fn put_byte(window: &mut [u8], at: usize, value: u32)
     ensures { window.new ≡ with_byte window.old at value }
 {
     let b = word_bytes(value);
-    window[at] = b.b0;
+    window[at] = b[0];
 }
 
 #[tactic(auto, unfolding(crate::specs::Place::with_half))]
@@ -41,8 +41,8 @@ pub fn put_half(window: &mut [u8], at: usize, value: u32)
     ensures { window.new ≡ with_half window.old at value }
 {
     let b = word_bytes(value);
-    window[at] = b.b0;
-    window[at + 1] = b.b1;
+    window[at] = b[0];
+    window[at + 1] = b[1];
 }
 
 #[tactic(auto, unfolding(crate::specs::Place::with_word))]
@@ -51,8 +51,8 @@ pub fn put_word(window: &mut [u8], at: usize, value: u32)
     ensures { window.new ≡ with_word window.old at value }
 {
     let bytes = word_bytes(value);
-    window[at] = bytes.b0;
-    window[at + 1] = bytes.b1;
-    window[at + 2] = bytes.b2;
-    window[at + 3] = bytes.b3;
+    window[at] = bytes[0];
+    window[at + 1] = bytes[1];
+    window[at + 2] = bytes[2];
+    window[at + 3] = bytes[3];
 }

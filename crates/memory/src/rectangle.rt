@@ -4,6 +4,14 @@ ghost use Rattle.memory.specs.Rectangle.{rectangle_end, words_put, filled};
 
 use crate::place::put_word;
 
+// The stride counts bytes, from a row's start to the next row's; width and height count pixels.
+#[derive(Clone, Copy, Debug, PartialEq, Eq)]
+pub struct Rectangle {
+    pub stride: usize,
+    pub width: usize,
+    pub height: usize,
+}
+
 fn fill_row(window: &mut [u8], address: usize, width: usize, color: u32)
     requires { address + 4 * width ≤ length window.old }
     ensures { window.new ≡ words_put address width (λ x. color) window.old }
@@ -14,22 +22,15 @@ fn fill_row(window: &mut [u8], address: usize, width: usize, color: u32)
 }
 
 #[tactic(auto, unfolding(crate::specs::Rectangle::filled))]
-pub fn fill(
-    window: &mut [u8],
-    address: usize,
-    stride: usize,
-    width: usize,
-    height: usize,
-    color: u32,
-)
-    requires { rectangle_end address stride width height ≤ length window.old }
-    ensures { window.new ≡ filled address stride width height color window.old }
+pub fn fill(window: &mut [u8], address: usize, rectangle: Rectangle, color: u32)
+    requires { rectangle_end address rectangle.stride rectangle.width rectangle.height ≤ length window.old }
+    ensures { window.new ≡ filled address rectangle.stride rectangle.width rectangle.height color window.old }
 {
-    if width == 0 {
+    if rectangle.width == 0 {
         return;
     }
-    for y in 0..height {
-        let row = y * stride;
-        fill_row(window, address + row, width, color);
+    for y in 0..rectangle.height {
+        let row = y * rectangle.stride;
+        fill_row(window, address + row, rectangle.width, color);
     }
 }

@@ -2,13 +2,12 @@
 ghost use Rattle.std.specs.Prelude.{◌≡◌, ◌+◌, ◌*◌, ◌≤◌, length};
 ghost use Rattle.memory.specs.Transfer.{transferred};
 
+#[tactic(auto, using(crate::proofs::Transferred::copied_over))]
 fn transfer(source: &[u8], start: usize, target: &mut [u8], at: usize, n: usize)
     requires { (start + n ≤ length source.now) × (at + n ≤ length target.old) }
     ensures { target.new ≡ transferred source.now start at n target.old }
 {
-    for i in 0..n {
-        target[at + i] = source[start + i];
-    }
+    target[at..at + n].copy_from_slice(&source[start..start + n]);
 }
 
 // `words` words of the source, from `start` on, to `address`.

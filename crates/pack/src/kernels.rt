@@ -3,7 +3,6 @@ ghost use Rattle.std.specs.Prelude.{◌≡◌, ◌≤◌, ◌<◌, ◌^◌};
 ghost use Rattle.pack.specs.Kernels.{kernel_count, first_word, kernel_words, code_count, lies_in_code, all_lie, sound_pack, kernel_of, code_word};
 
 use memory::peek::peek_word;
-use words::choice::both;
 
 pub const MOST_KERNELS: u32 = 16;
 
@@ -13,7 +12,7 @@ pub const MOST_CODE: u32 = 16384;
 const PAIRS_START: usize = 4;
 
 // The bytes of the pack that are a kernel's code.
-#[derive(Clone, Copy)]
+#[derive(Clone, Copy, Debug, PartialEq, Eq)]
 pub struct Kernel {
     pub start: usize,
     pub length: usize,
@@ -59,20 +58,13 @@ fn lies_in_code(pack: &[u8], k: u32) -> bool
     let first = first_word(pack, PAIRS_START, k) as usize;
     let words = kernel_words(pack, PAIRS_START, k) as usize;
     let code = code_count(pack) as usize;
-    both(1 <= words, first + words <= code)
+    (1 <= words) & (first + words <= code)
 }
 
-#[tactic(auto, unfolding(words::specs::Choice::all_below))]
 fn all_lie(pack: &[u8], n: u32) -> bool
     ensures { result ≡ all_lie pack.now n }
 {
-    let mut all = true;
-    let mut k = 0;
-    while k < n {
-        all = both(all, lies_in_code(pack, k));
-        k += 1;
-    }
-    all
+    (0..n).all(|k| lies_in_code(pack, k))
 }
 
 // Not faulty: within its limits, nothing after the code, each kernel in the code.
@@ -83,12 +75,9 @@ pub fn is_sound(pack: &[u8]) -> bool
     let kernels = kernel_count(pack);
     let code = code_count(pack);
     let size = 8 + 8 * kernels as usize + 4 * code as usize;
-    let counts = both(kernels <= MOST_KERNELS, code <= MOST_CODE);
+    let counts = (kernels <= MOST_KERNELS) & (code <= MOST_CODE);
     // A count that is too large is not looped over.
-    if both(counts, pack.len() == size) {
-        return all_lie(pack, kernels);
-    }
-    false
+    counts & (pack.len() == size) && all_lie(pack, kernels)
 }
 
 #[tactic(auto, unfolding(crate::specs::Kernels::kernel_of))]
@@ -106,8 +95,10 @@ pub fn kernel_at(pack: &[u8], k: u32) -> Kernel
 
 // The code word at a place of a kernel, in bytes from the kernel's start.
 pub fn code_word(pack: &[u8], kernel: Kernel, place: u32) -> u32
-    requires { kernel.start < 2 ^ 62 }
     ensures { result ≡ code_word pack.now kernel place }
 {
-    peek_word(pack, kernel.start + place as usize)
+    match pack.get(kernel.start..) {
+        Some(code) => peek_word(code, place as usize),
+        None => 0,
+    }
 }

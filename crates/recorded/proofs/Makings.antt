@@ -14,15 +14,18 @@ use Rattle.recorded.specs.declared.fresh.Named.{Named}
 use Rattle.recorded.specs.Fresh.{are_words, are_whole}
 
 -- what the test of the pieces says
-pub record Whole (body : List ℕ) : Type 0 where
-  pub windows : length_of body 0 ≡ windows_length
-  pub image : length_of body 2 ≡ image_length
+module _ (body : List ℕ) (named : Named) where
+  windows_and_image : are_whole body named ≡ true → (length_of body 0 ≡ windows_length) × (length_of body 2 ≡ image_length)
+  unfolding are_whole
+  windows_and_image all =
+      let windows = eqb (length_of body 0) windows_length in
+      let image = eqb (length_of body 2) image_length in
+      let numbers = eqb (length_of body 1) 8 && eqb (length_of body 4) 4 in
+      let call = both_left (windows && image) numbers (both_left (windows && image && numbers) (are_words body named) all) in
+      (eqb-true _ _ (both_left windows image call), eqb-true _ _ (both_right windows image call))
 
-pub whole : (body : List ℕ) (named : Named) → are_whole body named ≡ true → Whole body
-unfolding are_whole
-whole body named all =
-    let windows = eqb (length_of body 0) windows_length in
-    let image = eqb (length_of body 2) image_length in
-    let numbers = eqb (length_of body 1) 8 && eqb (length_of body 4) 4 in
-    let call = both_left (windows && image) numbers (both_left (windows && image && numbers) (are_words body named) all) in
-    record { windows = eqb-true _ _ (both_left windows image call); image = eqb-true _ _ (both_right windows image call) }
+  pub whole_windows : are_whole body named ≡ true → length_of body 0 ≡ windows_length
+  whole_windows all = (windows_and_image all).0
+
+  pub whole_image : are_whole body named ≡ true → length_of body 2 ≡ image_length
+  whole_image all = (windows_and_image all).1

@@ -14,8 +14,13 @@ use lib.Seq.{drop-cons, append_snoc, set_at, take_at, ext_get_or, get_or_at}
 use borrow.Author.Tests.{eqb-true, eq-eqb}
 use Rattle.words.proofs.Choices.{both_left, both_right}
 use Rattle.words.specs.Choice.{all_below}
-use Rattle.recorded.specs.Piece.{length_of, entry_of, first_bytes, same_as, PieceIsBytes}
+use Rattle.recorded.specs.Piece.{length_of, entry_end, entry_of, place_of, first_bytes, same_as, PieceIsBytes}
 use Rattle.words.proofs.EachBelow.{each_below}
+
+-- past one more entry
+pub one_further : (body ys : List ℕ) (y at next : ℕ) → at ≡ place_of body (length ys) → next ≡ entry_end body at → next ≡ place_of body (length (ys ++ (y ∷ [])))
+unfolding place_of
+one_further body ys y at next here more = rw (length-append, add-one, more, here)
 
 pub first_length : (n : ℕ) (entry : List ℕ) → length (first_bytes n entry) ≡ n
 unfolding first_bytes

@@ -18,18 +18,11 @@ pub enum Seen {
 pub fn compare(body: &[u8]) -> Seen
     ensures { result ≡ call_seen body.now }
 {
-    let kind = peek_word(body, 0);
-    if kind == 0 {
-        return fresh::compare(body, Named::Nothing);
+    match peek_word(body, 0) {
+        0 => fresh::compare(body, Named::Nothing),
+        1 => turn::compare(body),
+        2 => fresh::compare(body, Named::Limit),
+        3 => fresh::compare(body, Named::LimitAndFirst),
+        _ => Seen::Damaged,
     }
-    if kind == 1 {
-        return turn::compare(body);
-    }
-    if kind == 2 {
-        return fresh::compare(body, Named::Limit);
-    }
-    if kind == 3 {
-        return fresh::compare(body, Named::LimitAndFirst);
-    }
-    Seen::Damaged
 }

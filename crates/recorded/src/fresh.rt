@@ -8,7 +8,6 @@ use crate::piece::{is_same, laid, length_of, number_of, place_of, word_of};
 use capi::calls::{WINDOWS_BYTES, fresh_call, fresh_with_call};
 use capi::image::IMAGE_BYTES;
 use state::edition::Start;
-use words::choice::both;
 
 // What a making names beside the windows: nothing, a limit, or a limit and edition 2's starting number.
 #[derive(Clone, Copy)]
@@ -37,7 +36,7 @@ fn are_words(body: &[u8], named: Named) -> bool
     match named {
         Named::Nothing => true,
         Named::Limit => length_of(body, 5) == 4,
-        Named::LimitAndFirst => both(length_of(body, 5) == 4, length_of(body, 6) == 4),
+        Named::LimitAndFirst => (length_of(body, 5) == 4) & (length_of(body, 6) == 4),
     }
 }
 
@@ -46,12 +45,9 @@ fn are_words(body: &[u8], named: Named) -> bool
 fn are_whole(body: &[u8], named: Named) -> bool
     ensures { result ≡ are_whole body.now named }
 {
-    let is_call = both(
-        length_of(body, 0) == WINDOWS_BYTES,
-        length_of(body, 2) == IMAGE_BYTES,
-    );
-    let has_numbers = both(length_of(body, 1) == 8, length_of(body, 4) == 4);
-    both(both(is_call, has_numbers), are_words(body, named))
+    let is_call = (length_of(body, 0) == WINDOWS_BYTES) & (length_of(body, 2) == IMAGE_BYTES);
+    let has_numbers = (length_of(body, 1) == 8) & (length_of(body, 4) == 4);
+    is_call & has_numbers & are_words(body, named)
 }
 
 // Makes the recorded call on these pieces.
@@ -72,7 +68,7 @@ fn make_again(image: &mut [u8], windows: &[u8], body: &[u8], named: Named) -> u3
     }
 }
 
-#[tactic(auto, unfolding(crate::specs::Fresh::fresh_seen, crate::specs::Fresh::fresh_recorded))]
+#[tactic(auto, using(crate::proofs::Makings::whole_windows, crate::proofs::Makings::whole_image), unfolding(crate::specs::Fresh::fresh_seen, crate::specs::Fresh::fresh_recorded))]
 pub fn compare(body: &[u8], named: Named) -> Seen
     ensures { result ≡ fresh_seen body.now named }
 {
@@ -86,5 +82,5 @@ pub fn compare(body: &[u8], named: Named) -> Seen
     let status = make_again(image, windows, body, named);
     let is_answer = status as usize == number_of(body, 4);
     let is_all = place_of(body, pieces_of(named)) == body.len();
-    Seen::Fresh(both(is_same(image, body, 3), both(is_answer, is_all)))
+    Seen::Fresh(is_same(image, body, 3) & (is_answer & is_all))
 }

@@ -5,7 +5,6 @@ ghost use Rattle.recorded.specs.Piece.{entry_end, place_of, entry_of, length_of,
 
 use job::parts::{Part, bytes_of};
 use memory::peek::{peek_byte, peek_word};
-use words::choice::both;
 
 // Where the entry at a place of the body ends. From the body's end on there is none.
 #[tactic(auto, unfolding(crate::specs::Piece::entry_end))]
@@ -23,11 +22,7 @@ fn entry_end(body: &[u8], at: usize) -> usize
 pub fn place_of(body: &[u8], k: usize) -> usize
     ensures { result ≡ place_of body.now k }
 {
-    let mut at = 4;
-    for _ in 0..k {
-        at = entry_end(body, at);
-    }
-    at
+    (0..k).fold(4, |at, _| entry_end(body, at))
 }
 
 #[tactic(auto, unfolding(crate::specs::Piece::entry_of))]
@@ -79,16 +74,11 @@ pub fn laid<'a>(target: &'a mut [u8], body: &[u8], k: usize) -> &'a mut [u8]
 }
 
 // Whether the bytes are those of piece `k`, all of them and no more.
-#[tactic(auto, unfolding(words::specs::Choice::all_below, crate::specs::Piece::same_as))]
+#[tactic(auto, unfolding(crate::specs::Piece::same_as))]
 pub fn is_same(bytes: &[u8], body: &[u8], k: usize) -> bool
     ensures { result ≡ is_piece bytes.now body.now k }
 {
     let entry = entry_of(body, k);
-    let mut all = true;
-    for i in 0..bytes.len() {
-        let same = peek_byte(bytes, i) == peek_byte(entry, 8 + i);
-        all = both(all, same);
-    }
-    let is_long = bytes.len() == length_of(body, k);
-    both(is_long, all)
+    (bytes.len() == length_of(body, k))
+        & (0..bytes.len()).all(|i| peek_byte(bytes, i) == peek_byte(entry, 8 + i))
 }

@@ -8,7 +8,6 @@ use capi::calls::turn_call;
 use capi::image::IMAGE_BYTES;
 use capi::report::REPORT_BYTES;
 use memory::peek::peek_word;
-use words::choice::both;
 
 // The most bytes of a memory, of a ring or a pack, and of a pipe.
 const MEMORY_ROOM: usize = 1048640;
@@ -30,16 +29,11 @@ const MOST: [usize; 8] = [
 ];
 
 // Whether there is room for each of them.
-#[tactic(auto, unfolding(words::specs::Choice::all_below, crate::specs::Turn::has_room))]
+#[tactic(auto, unfolding(crate::specs::Turn::has_room))]
 fn has_room(body: &[u8]) -> bool
     ensures { result ≡ has_room body.now }
 {
-    let mut all = true;
-    for k in 0..8 {
-        let fits = length_of(body, k) <= MOST[k];
-        all = both(all, fits);
-    }
-    all
+    (0..MOST.len()).all(|k| length_of(body, k) <= MOST[k])
 }
 
 // Whether a turn left and returned what is recorded.
@@ -54,11 +48,11 @@ fn is_recorded(
 ) -> bool
     ensures { result ≡ turn_recorded body.now (called_of image.now memory.now pipe.now report.now status) }
 {
-    let is_kept = both(is_same(image, body, 8), is_same(memory, body, 9));
-    let is_told = both(is_same(pipe, body, 10), is_same(report, body, 11));
+    let is_kept = is_same(image, body, 8) & is_same(memory, body, 9);
+    let is_told = is_same(pipe, body, 10) & is_same(report, body, 11);
     let is_returned = status == peek_word(report, 0);
     let is_all = place_of(body, 12) == body.len();
-    both(both(is_kept, is_told), both(is_returned, is_all))
+    (is_kept & is_told) & (is_returned & is_all)
 }
 
 // Makes the call on what is lent, and compares what it leaves.
@@ -104,7 +98,7 @@ fn empty_ring() -> [u8; RING_ROOM] {
 }
 
 // Lays the pieces into rooms of their own, and makes the call.
-#[tactic(auto, unfolding(crate::specs::Turn::turn_seen))]
+#[tactic(auto, using(crate::proofs::Turns::has_room_lem), unfolding(crate::specs::Turn::turn_seen))]
 pub fn compare(body: &[u8]) -> Seen
     ensures { result ≡ turn_seen body.now }
 {

@@ -4,8 +4,9 @@ use mathlib.Core.Path.{◌≡◌}
 use mathlib.Core.List.{List}
 use Prim.Native.Nat.{ℕ, ◌+◌, ◌-◌, ◌≤◌}
 use native.Mathlib.Omega.{arith}
-use lib.ListN.{length, length-take}
-use Rattle.job.specs.declared.parse.Parsed.TheVariants.{Accepted}
+use lib.ListN.{length, take, length-take}
+use lib.Seq.{length-take-le}
+use Rattle.std.specs.Prelude.{Ok}
 use Rattle.job.specs.declared.parts.Job.{Job}
 use Rattle.job.specs.declared.parts.Part.{Part}
 use Rattle.job.specs.Parse.{parts_of}
@@ -20,15 +21,19 @@ use Rattle.device.specs.Turn.{Call, ring_in}
 use Rattle.device.specs.Untaken.{untaken_of, sum_of, untaken_in}
 use Rattle.replay.specs.Transcript.{first_call}
 
-pub as_short : {a b : List ℕ} → a ≡ b → length b ≤ 16384 → length a ≤ 16384
-as_short same short = rw same short
-
-pub memory_fits : (input : List ℕ) (job : Job) → parts_of input ≡ Accepted job → length (bytes_of input job.memory) ≤ 16384
+pub memory_fits : (input : List ℕ) (job : Job) → parts_of input ≡ Ok job → length (bytes_of input job.memory) ≤ 16384
 unfolding bytes_of job_of window_of sections_of memory_of section_at
 memory_fits input job e =
     let k = checked input job e in
     let few = k.0.memory in
     rw k.1 (simp (length-take) (omega (arith, few)))
+
+pub memory_short : (input : List ℕ) (job : Job) {words : List ℕ} → words ≡ bytes_of input job.memory → parts_of input ≡ Ok job → length words ≤ 16384
+memory_short input job same e = rw same (memory_fits input job e)
+
+-- so as much of a room as they fill is as long as they are
+pub as_much : (input : List ℕ) (job : Job) (words room : List ℕ) → words ≡ bytes_of input job.memory → parts_of input ≡ Ok job → 65536 ≡ length room → length (take (length words) room) ≡ length words
+as_much input job words room same e long = length-take-le (length words) room (omega (arith, memory_short input job same e))
 
 -- no more bytes are untaken than the rings have
 untaken_most : (d : Device) (call : Call) → untaken_in (ring_in call) d ≤ length call.ring0 + length call.ring1 + length call.ring2 + length call.ring3
@@ -41,7 +46,7 @@ unfolding bytes_of window_of
 part_most input part = simp length-take (omega arith)
 
 -- the rings stand one after the other in the input
-pub few_untaken : (d : Device) (input : List ℕ) (job : Job) → parts_of input ≡ Accepted job → untaken_in (ring_in (first_call input job)) d ≤ 61440
+pub few_untaken : (d : Device) (input : List ℕ) (job : Job) → parts_of input ≡ Ok job → untaken_in (ring_in (first_call input job)) d ≤ 61440
 unfolding first_call job_of sections_of ring0_of ring1_of ring2_of ring3_of section_at
 few_untaken d input job e =
     let k = checked input job e in

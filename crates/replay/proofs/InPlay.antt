@@ -5,7 +5,6 @@ use mathlib.Core.List.{List, ◌++◌}
 use Prim.Native.Nat.{ℕ, ◌+◌, ◌*◌, ◌≤◌}
 use native.Mathlib.Omega.{arith}
 use lib.ListN.{length, take, drop}
-use Rattle.spelling.specs.Put.{Spelled}
 use Rattle.spelling.specs.Line.{idle_line, refused_line}
 use Rattle.state.specs.declared.device.Device.{Device}
 use Rattle.state.specs.declared.refusal.Refusal.{Refusal}
@@ -19,7 +18,7 @@ use Rattle.device.specs.Turn.{Call, ring_in, call_of, Shows, turn_of}
 use Rattle.device.specs.Untaken.{untaken_in}
 use Rattle.device.proofs.Untaken.{served_takes}
 use Rattle.device.proofs.Shapes.{turn-shaped}
-use Rattle.replay.specs.Text.{Appended}
+use Rattle.replay.specs.Text.{Appended, Spelled}
 use Rattle.replay.specs.Transcript.{served_line, all_lines}
 use Rattle.replay.proofs.Lines.{served-next, idle-ends, refused-ends}
 use Rattle.replay.proofs.TextLaws.{whole-spelled, last_appended, next-rest, next_appended}
@@ -28,7 +27,6 @@ use Rattle.replay.proofs.TextLaws.{whole-spelled, last_appended, next-rest, next
 pub record In-play (d₀ : Device) (call₀ : Call) (memory₀ : ℕ) (text₀ : List ℕ) (d : Device) (call : Call) (lent : List ℕ) (turns n : ℕ) : Type 0 where
   pub memory : length call.memory ≡ memory₀
   pub pipe : length call.pipe ≡ 1020
-  pub text : length lent ≡ length text₀
   pub rest : drop n lent ≡ drop n text₀
   pub shaped : Shaped d
   pub untaken : 16 * turns + untaken_in (ring_in call) d ≤ 61440
@@ -36,42 +34,41 @@ pub record In-play (d₀ : Device) (call₀ : Call) (memory₀ : ℕ) (text₀ :
   pub lines : all_lines 0 d₀ call₀ ≡ take n lent ++ all_lines turns d call
 
 -- before the first turn
-pub starts : (d : Device) (call : Call) (lent : List ℕ) → length call.pipe ≡ 1020 → Shaped d → untaken_in (ring_in call) d ≤ 61440
-    → In-play d call (length call.memory) lent d call lent 0 0
-starts d call lent pipe shaped few =
+pub starts : (d : Device) (call : Call) (lent : List ℕ) (n : ℕ) → length call.pipe ≡ 1020 → Shaped d → untaken_in (ring_in call) d ≤ 61440 → n ≡ 0
+    → In-play d call (length call.memory) lent d call lent 0 n
+starts d call lent n pipe shaped few none =
     record {
       memory = refl;
       pipe = pipe;
-      text = refl;
       rest = refl;
       shaped = shaped;
       untaken = omega arith;
       written = omega arith;
-      lines = refl;
+      lines = rw none;
     }
 
 module _ {d₀ d : Device} {call₀ call : Call} {memory₀ turns n : ℕ} {text₀ text : List ℕ}
     (p : In-play d₀ call₀ memory₀ text₀ d call text turns n) where
   -- there is room for one more line
-  pub line_fits : 262144 ≤ length text₀ → n + 64 ≤ length text
-  line_fits room = omega (arith, p.untaken, p.written, p.text)
+  pub line_fits : n + 64 ≤ 262144
+  line_fits = omega (arith, p.untaken, p.written)
 
   -- the last line ends the text
-  ended : {line lent : List ℕ} {k : ℕ} → all_lines turns d call ≡ line → Appended line n text lent k → k ≤ n + 64 → length lent ≡ length text → 262144 ≤ length text₀
+  ended : {line lent : List ℕ} {k : ℕ} → all_lines turns d call ≡ line → Appended line n text lent k → k ≤ n + 64 → length lent ≡ 262144
       → Spelled (all_lines 0 d₀ call₀) text₀ lent k
-  ended last a short same room =
-      whole-spelled (last_appended (rw last at p.lines) a) (next-rest text₀ a p.rest) (omega (arith, line_fits room))
+  ended last a short room =
+      whole-spelled (last_appended (rw last at p.lines) a) (next-rest text₀ a p.rest) (omega (arith, line_fits))
 
   module _ {r : Turned} {memory pipe : List ℕ} (shows : Shows r memory pipe (turn_of d call)) where
     same_answer : {a : Answer} → r.answer ≡ a → (turn_of d call).turned.answer ≡ a
     same_answer e = sym (ap (λ x. x.answer) shows.answer) ∙ e
 
     pub ends-idle : r.answer ≡ Idle → {lent : List ℕ} {k : ℕ} → Appended (idle_line turns) n text lent k → k ≤ n + 64
-        → length lent ≡ length text → 262144 ≤ length text₀ → Spelled (all_lines 0 d₀ call₀) text₀ lent k
+        → length lent ≡ 262144 → Spelled (all_lines 0 d₀ call₀) text₀ lent k
     ends-idle e = ended (idle-ends turns d call p.shaped (same_answer e))
 
     pub ends-refused : (why : Refusal) → r.answer ≡ Refused why → {lent : List ℕ} {k : ℕ} → Appended (refused_line (refusal_number why)) n text lent k → k ≤ n + 64
-        → length lent ≡ length text → 262144 ≤ length text₀ → Spelled (all_lines 0 d₀ call₀) text₀ lent k
+        → length lent ≡ 262144 → Spelled (all_lines 0 d₀ call₀) text₀ lent k
     ends-refused why e = ended (refused-ends turns d call p.shaped why (same_answer e))
 
     module _ (report : Report) (e : r.answer ≡ Served report) where
@@ -79,15 +76,14 @@ module _ {d₀ d : Device} {call₀ call : Call} {memory₀ turns n : ℕ} {text
       pub falls : untaken_in (ring_in call) r.device + 16 ≤ untaken_in (ring_in call) d
       falls = rw shows.answer (served_takes d call p.shaped report (same_answer e))
 
-      pub goes_on : {lent : List ℕ} {k : ℕ} → Appended (served_line (turns + 1) report) n text lent k → k ≤ n + 64 → length lent ≡ length text
+      pub goes_on : {lent : List ℕ} {k : ℕ} → Appended (served_line (turns + 1) report) n text lent k → k ≤ n + 64
           → length memory ≡ length call.memory → length pipe ≡ length call.pipe
           → In-play d₀ call₀ memory₀ text₀ r.device (call_of memory call.ring0 call.ring1 call.ring2 call.ring3 call.pack pipe) lent (turns + 1) k
       unfolding untaken_in
-      goes_on a short same same_memory same-pipe =
+      goes_on a short same_memory same-pipe =
           record {
             memory = same_memory ∙ p.memory;
             pipe = same-pipe ∙ p.pipe;
-            text = same ∙ p.text;
             rest = next-rest text₀ a p.rest;
             shaped = rw shows.answer (turn-shaped d call p.shaped);
             untaken = omega (arith, falls, p.untaken);

@@ -1,54 +1,39 @@
--- Laws of text in lent bytes.
+-- Laws of text at the front of bytes.
 -- Assumes nothing.
 use mathlib.Core.Path.{◌≡◌, sym, ◌∙◌, ap}
-use mathlib.Core.List.{List, [], ◌∷◌, ◌++◌, append_assoc, append-nil}
-use Prim.Native.Nat.{ℕ, suc, ◌+◌, ◌≤◌, ◌<◌}
+use mathlib.Core.List.{List, ◌++◌, append_assoc}
+use Prim.Native.Nat.{ℕ, ◌+◌, ◌≤◌}
 use native.Mathlib.Omega.{arith}
-use native.Mathlib.Nat.{add-zero}
-use native.Mathlib.Numerals.{add-one}
-use lib.ListN.{length, get_or, set, take, drop, length-take, take-append-drop}
-use lib.Seq.{take-suc, take-suc-set, take_at, drop-set-lt, drop-drop, length-take-le}
-use Rattle.spelling.specs.Put.{Spelled}
-use Rattle.replay.specs.Text.{Appended}
+use lib.ListN.{length, take, drop, take-append-drop}
+use lib.Seq.{drop-drop, length-take-le}
+use Rattle.std.proofs.lemmas.Slice.{take-put_mid, drop-put_mid}
+use borrow.Rule.Slice.PartMut.{put_mid}
+use Rattle.std.proofs.lemmas.List.Edits.{sets-eq}
+use Rattle.replay.specs.Text.{Put, Appended, Spelled}
 
--- nothing is put yet
-pub none-put : (text bytes : List ℕ) (n : ℕ) → take (n + 0) text ≡ take n text ++ take 0 bytes
-none-put text bytes n = rw add-zero (sym (append-nil (take n text)))
+-- bytes put after the first n, over as many
+pub put-appended : (bytes before put : List ℕ) (n k r : ℕ) → put ≡ bytes → k ≡ length bytes → r ≡ n + length bytes → r ≤ length before
+    → Appended bytes n before (put_mid n k before put) r
+put-appended bytes before put n k r same count end room =
+    record {
+      front = take-put_mid n k before put r (omega (arith, ap length same)) (omega arith) ∙ ap (λ (l : List ℕ). take n before ++ l) same;
+      rest = drop-put_mid n k before put r (omega arith) (omega arith) (omega (arith, ap length same));
+      counted = end;
+    }
 
--- one more byte is put
-pub one_more : (text before bytes : List ℕ) (n i : ℕ) → n + i < length text → i < length bytes
-    → take (n + i) text ≡ take n before ++ take i bytes
-    → take (n + (i + 1)) (set text (n + i) (get_or bytes i 0)) ≡ take n before ++ take (i + 1) bytes
-one_more text before bytes n i room more front =
-    let place : n + (i + 1) ≡ suc (n + i) = omega arith in
-    rw (place, add-one i)
-    (take-suc-set text (n + i) (get_or bytes i 0) room
-    ∙ ap (λ (l : List ℕ). l ++ (get_or bytes i 0 ∷ [])) front
-    ∙ append_assoc (take n before) (take i bytes) (get_or bytes i 0 ∷ [])
-    ∙ ap (λ (l : List ℕ). take n before ++ l) (sym (take-suc bytes i 0 more)))
+-- the text that appending leaves
+pub whole : (bytes : List ℕ) (n : ℕ) (before after : List ℕ) (r : ℕ) → Appended bytes n before after r
+    → after ≡ take n before ++ bytes ++ drop (n + length bytes) before
+whole bytes n before after r a = sym (take-append-drop r after) ∙ rw (a.front, a.rest, a.counted)
+
+-- bytes put after the first n are put over others from there on
+pub appended-put : (bytes : List ℕ) (n : ℕ) (before after : List ℕ) (r : ℕ) → n + length bytes ≤ length before → Appended bytes n before after r
+    → Put before n bytes after r
+appended-put bytes n before after r room a = record { stored = whole bytes n before after r a ∙ sym (sets-eq bytes before n room); place = a.counted }
 
 -- what agrees from a place on agrees from a later one on
 later : (n more : ℕ) (a b : List ℕ) → drop n a ≡ drop n b → drop (n + more) a ≡ drop (n + more) b
 later n more a b e = sym (drop-drop more n a) ∙ ap (drop more) e ∙ drop-drop more n b
-
--- and the bytes past it are as before
-pub rest-kept : (text before : List ℕ) (byte n i : ℕ) → drop (n + i) text ≡ drop (n + i) before
-    → drop (n + (i + 1)) (set text (n + i) byte) ≡ drop (n + (i + 1)) before
-rest-kept text before byte n i rest =
-    let place : n + (i + 1) ≡ n + i + 1 = omega arith in
-    rw place (drop-set-lt (n + i + 1) text (n + i) byte (omega arith) ∙ later (n + i) 1 text before rest)
-
--- a spelled line is the front that its length gives
-pub spelled-front : {line before after : List ℕ} {k : ℕ} → Spelled line before after k → take k after ≡ line
-spelled-front {line} s = rw s.bytes (take_at line _ _ (sym s.counted))
-
--- a front has no more than the whole
-pub front-short : (k : ℕ) (all : List ℕ) → length (take k all) ≤ length all
-front-short k all = simp length-take (omega arith)
-
--- so to append that front is to append the line
-pub line_appended : {line before spelled text lent : List ℕ} {k n r : ℕ} → Spelled line before spelled k → Appended (take k spelled) n text lent r → Appended line n text lent r
-line_appended s a = rw (spelled-front s) at a
 
 -- a front, with the bytes past it as before, is a text spelled there
 pub whole-spelled : {whole before after : List ℕ} {r : ℕ} → take r after ≡ whole → drop r after ≡ drop r before → r ≤ length after → Spelled whole before after r
@@ -73,5 +58,5 @@ pub next_appended : {whole line text lent : List ℕ} {n r : ℕ} (rest : List �
 next_appended {line = line} {text = text} {n = n} rest e a = e ∙ sym (append_assoc (take n text) line rest) ∙ ap (λ (l : List ℕ). l ++ rest) (sym a.front)
 
 -- a line that stands alone is the text
-pub alone : {line text lent : List ℕ} {r : ℕ} → Appended line 0 text lent r → r ≤ 0 + 64 → length lent ≡ length text → 262144 ≤ length text → Spelled line text lent r
-alone a short same room = whole-spelled a.front a.rest (omega arith)
+pub alone : {line text lent : List ℕ} {n r : ℕ} → n ≡ 0 → Appended line n text lent r → r ≤ n + 64 → length lent ≡ 262144 → Spelled line text lent r
+alone {n = n} none a short room = whole-spelled (a.front ∙ rw none) a.rest (omega arith)

@@ -1,10 +1,8 @@
 -- The whole text that the replay job prints.
-use Rattle.std.specs.Prelude.{ℕ, zero, suc, ◌+◌, ◌<◌, ◌≡◌, List, [], ◌++◌, length, replicate}
+use Rattle.std.specs.Prelude.{ℕ, zero, suc, ◌+◌, ◌<◌, ◌≡◌, List, [], ◌∷◌, ◌++◌, length, replicate, Result, Ok, Err}
 use Rattle.state.specs.declared.device.Device.{Device}
-use Rattle.state.specs.declared.device.Window.{Window}
+use Rattle.state.specs.declared.refusal.Refusal.{Refusal}
 use Rattle.device.specs.declared.fresh.Fresh.{Fresh}
-use Rattle.device.specs.declared.fresh.Making.{Making}
-use Rattle.device.specs.declared.fresh.Making.TheVariants.{Made, Refused as RefusedFresh}
 use Rattle.device.specs.declared.turn.Answer.{Answer}
 use Rattle.device.specs.declared.turn.Answer.TheVariants.{Served, Idle, Refused as RefusedTurn}
 use Rattle.device.specs.declared.turn.Report.{Report}
@@ -13,11 +11,10 @@ use Rattle.device.specs.Answer.{answer_number, making_number, report_values}
 use Rattle.device.specs.Fresh.{fresh_of}
 use Rattle.device.specs.Turn.{Call, ring_in, call_of, TurnEnd, turn_of}
 use Rattle.device.specs.Untaken.{untaken_in}
-use Rattle.job.specs.declared.parse.Parsed.{Parsed}
-use Rattle.job.specs.declared.parse.Parsed.TheVariants.{Accepted, Refused}
+use Rattle.job.specs.declared.fault.Fault.{Fault}
 use Rattle.job.specs.declared.parts.Job.{Job}
-use Rattle.job.specs.declared.parts.Window.{Window as Pair}
 use Rattle.job.specs.Parts.{bytes_of}
+use Rattle.job.specs.Fault.{fault_number}
 use Rattle.job.specs.Parse.{parts_of}
 use Rattle.spelling.specs.Line.{turn_line, idle_line, refused_line}
 
@@ -64,29 +61,25 @@ first_call input job =
     (bytes_of input job.ring0) (bytes_of input job.ring1) (bytes_of input job.ring2) (bytes_of input job.ring3)
     (bytes_of input job.pack) empty_pipe
 
--- a pair of the job as a window of the device
-abbrev pub as_window : Pair → Window
-as_window pair = record { start = pair.start; length = pair.length }
-
 -- the making of a fresh device with the job's windows, no limit and no start named: so of edition 1
 unfoldable pub fresh_for : List ℕ → Job → Fresh
 fresh_for input job =
     fresh_of (length (bytes_of input job.memory))
-    (as_window job.window0) (as_window job.window1) (as_window job.window2) (as_window job.window3)
+    (job.window0 ∷ job.window1 ∷ job.window2 ∷ job.window3 ∷ [])
 
 -- a fresh device takes all its turns; if it cannot be made, the number of that refusal, 101, is printed
-unfoldable pub played_on : Making → Device → Call → List ℕ
-played_on Made d call = all_lines 0 d call
-played_on (RefusedFresh why) d call = refused_line (making_number (RefusedFresh why))
+unfoldable pub played_on : Result Unit Refusal → Device → Call → List ℕ
+played_on (Ok made) d call = all_lines 0 d call
+played_on (Err why) d call = refused_line (making_number (Err why))
 
 -- what an accepted job prints
 unfoldable pub job_text : List ℕ → Job → List ℕ
 job_text input job = played_on (fresh_for input job).answer (fresh_for input job).device (first_call input job)
 
 -- what an input prints once it is taken apart
-unfoldable pub parsed_text : List ℕ → Parsed → List ℕ
-parsed_text input (Accepted job) = job_text input job
-parsed_text input (Refused number) = refused_line number
+unfoldable pub parsed_text : List ℕ → Result Job Fault → List ℕ
+parsed_text input (Ok job) = job_text input job
+parsed_text input (Err fault) = refused_line (fault_number fault)
 
 -- what an input prints
 unfoldable pub transcript_of : List ℕ → List ℕ

@@ -5,13 +5,16 @@
 use std::io;
 
 mod play;
-mod reading;
+mod room;
 mod text;
 
+use reading::read_full;
+use text::Text;
+
 fn main(rt: HostRuntime) -> io::Result<()> {
-    let mut input = reading::large_buffer();
-    let n = reading::read_full(&mut rt.stdin(), &mut input);
-    let mut text = text::buffer();
-    let k = play::transcribe(&input[..n], &mut text);
-    rt.write_all(&text[..k])
+    let mut input = room::large_buffer();
+    let n = read_full(&mut rt.stdin(), &mut input);
+    let mut text = Text::empty();
+    play::transcribe(&input[..n], &mut text);
+    rt.write_all(text.as_bytes())
 }

@@ -1,4 +1,1 @@
-pub mod Stores
 pub mod DecimalLaws
-pub mod LineLaws
-pub mod OneAnswer

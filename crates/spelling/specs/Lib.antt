@@ -1,4 +1,2 @@
-pub mod Put
 pub mod Decimal
 pub mod Line
-pub mod OneAnswer

@@ -1,5 +1,4 @@
-// Numbers and lines spelled in lent bytes.
+// Numbers and lines in decimal.
 #![tactic(auto)]
 
-pub mod decimal;
 pub mod line;

@@ -1,51 +1,117 @@
-// The lines that the replay job prints, each at the front of lent bytes.
-ghost use Rattle.spelling.specs.Put.{Spelled};
+// The lines that the replay job prints.
+ghost use Rattle.std.specs.Prelude.{◌≡◌, ℕ, List, [], ◌∷◌, ◌++◌, ◌+◌, ◌≤◌, ◌<◌, length, take};
+ghost use Rattle.spelling.specs.Decimal.{decimal};
 ghost use Rattle.spelling.specs.Line.{turn_line, idle_line, refused_line};
 
-use crate::decimal::put_field;
+use std::marker::Model;
 
-const SPACE: u8 = 32;
+// No line is longer: five words of at most ten digits, each with the byte after it.
+const ROOM: usize = 64;
 
-const NEWLINE: u8 = 10;
-
-pub fn spell_turn(
-    out: &mut [u8; 64],
-    turn: u32,
-    ring: u32,
-    outcome: u32,
-    fence: u32,
-    words: u32,
-) -> usize
-    ensures { Spelled (turn_line turn ring outcome fence words) out.old out.new result }
-{
-    let at1 = put_field(out, 0, turn, SPACE);
-    let at2 = put_field(out, at1, ring, SPACE);
-    let at3 = put_field(out, at2, outcome, SPACE);
-    let at4 = put_field(out, at3, fence, SPACE);
-    put_field(out, at4, words, NEWLINE)
+// A line, which contracts see as its bytes.
+#[derive(Drop)]
+pub struct Line {
+    bytes: [u8; ROOM],
+    length: usize,
 }
 
-pub fn spell_idle(out: &mut [u8; 64], turns: u32) -> usize
-    ensures { Spelled (idle_line turns) out.old out.new result }
-{
-    out[0] = b'i';
-    out[1] = b'd';
-    out[2] = b'l';
-    out[3] = b'e';
-    out[4] = SPACE;
-    put_field(out, 5, turns, NEWLINE)
+impl Model for Line {
+    ghost Value = { List ℕ };
+
+    ghost view = { λ line. take line.length line.bytes };
+
+    ghost invariant = { λ line. line.length ≤ 64 };
 }
 
-pub fn spell_refused(out: &mut [u8; 64], number: u32) -> usize
-    ensures { Spelled (refused_line number) out.old out.new result }
-{
-    out[0] = b'r';
-    out[1] = b'e';
-    out[2] = b'f';
-    out[3] = b'u';
-    out[4] = b's';
-    out[5] = b'e';
-    out[6] = b'd';
-    out[7] = SPACE;
-    put_field(out, 8, number, NEWLINE)
+impl Line {
+    // The line of a served turn.
+    #[tactic(auto, unfolding(crate::specs::Line::turn_line, crate::specs::Line::line_of))]
+    pub fn of_turn(turn: u32, ring: u32, outcome: u32, fence: u32, words: u32) -> Line
+        ensures { result ≡ turn_line turn ring outcome fence words }
+    {
+        let mut line = Line::empty();
+        line.push_field(turn, b' ');
+        line.push_field(ring, b' ');
+        line.push_field(outcome, b' ');
+        line.push_field(fence, b' ');
+        line.push_field(words, b'\n');
+        line
+    }
+
+    #[tactic(auto, unfolding(crate::specs::Line::idle_line, crate::specs::Line::line_of))]
+    pub fn of_idle(turns: u32) -> Line
+        ensures { result ≡ idle_line turns }
+    {
+        let mut line = Line::empty();
+        line.push_all(b"idle ");
+        line.push_field(turns, b'\n');
+        line
+    }
+
+    #[tactic(auto, unfolding(crate::specs::Line::refused_line, crate::specs::Line::line_of))]
+    pub fn of_refused(number: u32) -> Line
+        ensures { result ≡ refused_line number }
+    {
+        let mut line = Line::empty();
+        line.push_all(b"refused ");
+        line.push_field(number, b'\n');
+        line
+    }
+
+    pub fn as_bytes(&self) -> &[u8]
+        ensures bytes { result.now ≡ self.now }
+        ensures short { length result.now ≤ 64 }
+    {
+        &self.bytes[..self.length]
+    }
+
+    fn empty() -> Line
+        ensures { result ≡ [] }
+    {
+        Line {
+            bytes: [0; ROOM],
+            length: 0,
+        }
+    }
+
+    fn push(&mut self, byte: u8)
+        requires { length self.old < 64 }
+        ensures { self.new ≡ self.old ++ (byte ∷ []) }
+    {
+        self.bytes[self.length] = byte;
+        self.length += 1;
+    }
+
+    fn push_all(&mut self, bytes: &[u8])
+        requires { length self.old + length bytes.now ≤ 64 }
+        ensures { self.new ≡ self.old ++ bytes.now }
+    {
+        for byte in bytes {
+            self.push(*byte);
+        }
+    }
+
+    // A number in decimal.
+    #[tactic(auto, using(crate::proofs::DecimalLaws::decimal_small, crate::proofs::DecimalLaws::length_more))]
+    fn push_number(&mut self, n: u32)
+        requires { length self.old + length (decimal n) ≤ 64 }
+        ensures { self.new ≡ self.old ++ decimal n }
+    {
+        if n < 10 {
+            return self.push(b'0' + n as u8);
+        }
+        self.push_number(n / 10);
+        self.push(b'0' + (n % 10) as u8);
+    }
+
+    // A number and the byte after it.
+    #[tactic(auto, using(crate::proofs::DecimalLaws::digits_of_word))]
+    fn push_field(&mut self, n: u32, last: u8)
+        requires { length self.old + 11 ≤ 64 }
+        ensures pushed { self.new ≡ self.old ++ (decimal n ++ (last ∷ [])) }
+        ensures upper_bound { length self.new ≤ length self.old + 11 }
+    {
+        self.push_number(n);
+        self.push(last);
+    }
 }

@@ -2,17 +2,18 @@
 -- Assumes nothing.
 use mathlib.Core.Path.{◌≡◌, refl}
 use mathlib.Core.Bool.{Bool, true, false, cond}
-use mathlib.Core.List.{List, [], ◌∷◌}
-use Prim.Native.Nat.{ℕ, zero, suc, ◌+◌, ◌%◌, ◌^◌, ◌<◌}
-use native.Mathlib.Nat.{not-suc-le-zero, le_of_suc-le-suc}
+use mathlib.Core.List.{List}
+use Prim.Native.Nat.{ℕ, ◌+◌, ◌%◌, ◌^◌, ◌<◌}
 use native.Mathlib.Omega.{arith}
 use lib.Dec.{eqb}
 use lib.ListN.{length, get_or, length-set}
 use lib.Seq.{get_or-set_same, get_or-set_other}
 use borrow.Author.Tests.{eqb-true, eqb-false, eq-eqb}
+use Rattle.std.specs.Prelude.{sum}
+use Rattle.std.proofs.lemmas.List.Sums.{sum_by-set}
 use Rattle.state.specs.declared.counts.Counts.{Counts}
 use Rattle.state.specs.PlusOne.{plus_one, plus_one_at}
-use Rattle.state.specs.Counts.{counted, total, balanced}
+use Rattle.state.specs.Counts.{counted, balanced}
 use Rattle.state.proofs.Places.{put_each}
 
 -- place n alone is one more
@@ -35,18 +36,16 @@ unfolding plus_one_at
 plus_one-long xs n = length-set xs n _
 
 -- the sum changes as the place does
-pub total_changes : (xs : List ℕ) (n : ℕ) → n < length xs → total (plus_one_at xs n) + get_or xs n 0 ≡ total xs + plus_one (get_or xs n 0)
-unfolding total plus_one_at
-total_changes [] n h = absurd (not-suc-le-zero h)
-total_changes (x ∷ xs) zero h = omega arith
-total_changes (x ∷ xs) (suc n) h = omega (arith, total_changes xs n (le_of_suc-le-suc h))
+pub total_changes : (xs : List ℕ) (n : ℕ) → n < length xs → sum (plus_one_at xs n) + get_or xs n 0 ≡ sum xs + plus_one (get_or xs n 0)
+unfolding plus_one_at
+total_changes xs n h = sum_by-set (λ x. x) xs n _ 0 h
 
 -- so sums that agree still agree once a command is counted
 pub counted-balanced : (counts : Counts) (q k : ℕ) → q < length counts.commands → k < length counts.outcomes → balanced counts ≡ true
     → balanced (counted counts q k) ≡ true
 unfolding balanced counted
 counted-balanced counts q k ring outcome same =
-    let was = eqb-true (total counts.commands % 2 ^ 32) (total counts.outcomes % 2 ^ 32) same in
-    let agree : total (plus_one_at counts.commands q) % 2 ^ 32 ≡ total (plus_one_at counts.outcomes k) % 2 ^ 32 =
+    let was = eqb-true (sum counts.commands % 2 ^ 32) (sum counts.outcomes % 2 ^ 32) same in
+    let agree : sum (plus_one_at counts.commands q) % 2 ^ 32 ≡ sum (plus_one_at counts.outcomes k) % 2 ^ 32 =
     omega (arith, was, total_changes counts.commands q ring, total_changes counts.outcomes k outcome) in
     eq-eqb _ _ agree

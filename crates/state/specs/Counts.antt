@@ -1,5 +1,5 @@
 -- What the device counts: the commands that each ring has taken, and the commands that had each outcome.
-use Rattle.std.specs.Prelude.{ℕ, ◌+◌, ◌%◌, ◌^◌, Bool, List, [], ◌∷◌, eqb, replicate}
+use Rattle.std.specs.Prelude.{ℕ, ◌%◌, ◌^◌, Bool, eqb, replicate, sum}
 use Rattle.state.specs.declared.counts.Counts.{Counts}
 use Rattle.state.specs.PlusOne.{plus_one_at}
 
@@ -12,11 +12,6 @@ unfoldable pub counted : Counts → ℕ → ℕ → Counts
 counted counts q outcome =
     record { commands = plus_one_at counts.commands q; outcomes = plus_one_at counts.outcomes outcome }
 
--- the sum of some counts
-unfoldable pub total : List ℕ → ℕ
-total [] = 0
-total (n ∷ ns) = n + total ns
-
 -- the sum of the four and the sum of the fifteen agree modulo 4,294,967,296
 unfoldable pub balanced : Counts → Bool
-balanced counts = eqb (total counts.commands % 2 ^ 32) (total counts.outcomes % 2 ^ 32)
+balanced counts = eqb (sum counts.commands % 2 ^ 32) (sum counts.outcomes % 2 ^ 32)

@@ -1,6 +1,5 @@
 -- The device's state.
-use Rattle.std.specs.Prelude.{ℕ, ◌^◌, ◌<◌, ◌≡◌, List, [], ◌∷◌, length, get_or, set, replicate}
-use Rattle.command.specs.declared.frame.Frame.TheVariants.{Unset}
+use Rattle.std.specs.Prelude.{ℕ, ◌^◌, ◌<◌, ◌≡◌, List, [], ◌∷◌, length, get_or, set, replicate, None}
 use Rattle.state.specs.declared.counts.Counts.{Counts}
 use Rattle.state.specs.declared.edition.Edition.{Edition}
 use Rattle.state.specs.declared.edition.Start.{Start}
@@ -17,7 +16,7 @@ empty_window = record { start = 0; length = 0 }
 
 -- a ring as it is when fresh: its cursor at 0, no frame
 abbrev pub fresh_ring : Window → Ring
-fresh_ring window = record { window = window; cursor = 0; frame = Unset }
+fresh_ring window = record { window = window; cursor = 0; frame = None }
 
 -- a device of these parts
 abbrev pub device_of : List Ring → List ℕ → ℕ → ℕ → Counts → Edition → Device
@@ -35,15 +34,25 @@ pub record Shaped (d : Device) : Type 0 where
 abbrev pub default_limit : ℕ
 default_limit = 16384
 
--- a fresh device with this limit and start: all 64 slots the starting number, the marker 0, nothing counted
-unfoldable pub fresh_device : Window → Window → Window → Window → ℕ → Start → Device
-fresh_device w0 w1 w2 w3 limit start =
-    device_of (fresh_ring w0 ∷ fresh_ring w1 ∷ fresh_ring w2 ∷ fresh_ring w3 ∷ []) (replicate 64 (first_of start)) 0 limit no_counts
-    (edition_of start)
+-- window q of four; past those that are listed, an empty one at 0
+abbrev pub nth_window : List Window → ℕ → Window
+nth_window windows q = get_or windows q empty_window
 
--- a fresh device of four empty windows at 0, no limit named, edition 1
+-- a fresh device of four windows with this limit and start: all 64 slots the starting number, the marker 0, nothing counted
+unfoldable pub fresh_device : List Window → ℕ → Start → Device
+fresh_device windows limit start =
+    device_of
+    (fresh_ring (nth_window windows 0) ∷ fresh_ring (nth_window windows 1)
+    ∷ fresh_ring (nth_window windows 2) ∷ fresh_ring (nth_window windows 3) ∷ [])
+    (replicate 64 (first_of start)) 0 limit no_counts (edition_of start)
+
+-- four empty windows at 0
+abbrev pub empty_windows : List Window
+empty_windows = replicate 4 empty_window
+
+-- a fresh device of four empty windows, no limit named, edition 1
 unfoldable pub empty_device : Device
-empty_device = fresh_device empty_window empty_window empty_window empty_window default_limit Edition1
+empty_device = fresh_device empty_windows default_limit Edition1
 
 -- ring q
 unfoldable pub ring_of : Device → ℕ → Ring

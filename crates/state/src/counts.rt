@@ -1,7 +1,7 @@
 // What the device counts, passed and returned by value.
-ghost use Rattle.std.specs.Prelude.{◌≡◌, ◌≤◌, length};
+ghost use Rattle.std.specs.Prelude.{◌≡◌, ◌≤◌, length, sum};
 ghost use Rattle.command.specs.Outcome.{outcome_number};
-ghost use Rattle.state.specs.Counts.{no_counts, counted, total, balanced};
+ghost use Rattle.state.specs.Counts.{no_counts, counted, balanced};
 
 use crate::plus_one::plus_one_at;
 use command::outcome::{Outcome, number};
@@ -35,27 +35,22 @@ impl Counts {
         plus_one_at(&mut outcomes, number(outcome) as usize);
         Counts { commands, outcomes }
     }
+
+    // Whether the two sums agree modulo 2^32.
+    #[tactic(auto, unfolding(crate::specs::Counts::balanced))]
+    pub fn balanced(self) -> bool
+        ensures { result ≡ balanced self }
+    {
+        let commands = total(&self.commands);
+        let outcomes = total(&self.outcomes);
+        commands % 0x1_0000_0000 == outcomes % 0x1_0000_0000
+    }
 }
 
 // Few enough for 64 bits: at most fifteen.
-#[tactic(auto, unfolding(crate::specs::Counts::total))]
 fn total(counts: &[u32]) -> u64
     requires { length counts.now ≤ 15 }
-    ensures { result ≡ total counts.now }
+    ensures { result ≡ sum counts.now }
 {
-    let mut sum: u64 = 0;
-    for i in 0..counts.len() {
-        sum += counts[i] as u64;
-    }
-    sum
-}
-
-// Whether the two sums agree modulo 2^32.
-#[tactic(auto, unfolding(crate::specs::Counts::balanced))]
-pub fn balanced(counts: Counts) -> bool
-    ensures { result ≡ balanced counts }
-{
-    let commands = total(&counts.commands);
-    let outcomes = total(&counts.outcomes);
-    commands % 0x1_0000_0000 == outcomes % 0x1_0000_0000
+    counts.iter().map(|&n| u64::from(n)).sum()
 }

@@ -3,14 +3,14 @@ ghost use Rattle.std.specs.Prelude.{◌≡◌, ◌<◌};
 ghost use Rattle.state.specs.Device.{device_of, ByType, fresh_ring, fresh_device, empty_device, ring_of, slot_of, with_ring, with_slots, with_marker, with_counts};
 
 use crate::counts::Counts;
-use crate::edition::{Edition, Start, edition_of, first_of};
+use crate::edition::{Edition, Start};
 use command::frame::Frame;
 
 // The limit where none is named.
 pub const DEFAULT_LIMIT: u32 = 16384;
 
 // A ring's part of the memory.
-#[derive(Clone, Copy)]
+#[derive(Clone, Copy, Debug, PartialEq, Eq)]
 pub struct Window {
     pub start: u32,
     pub length: u32,
@@ -20,7 +20,7 @@ pub struct Window {
 pub struct Ring {
     pub window: Window,
     pub cursor: u32,
-    pub frame: Frame,
+    pub frame: Option<Frame>,
 }
 
 #[derive(Clone, Copy)]
@@ -40,7 +40,7 @@ fn fresh_ring(window: Window) -> Ring
     Ring {
         window,
         cursor: 0,
-        frame: Frame::Unset,
+        frame: None,
     }
 }
 
@@ -76,17 +76,17 @@ impl Device {
     }
 
     #[tactic(auto, unfolding(crate::specs::Device::fresh_device))]
-    pub fn fresh(w0: Window, w1: Window, w2: Window, w3: Window, limit: u32, start: Start) -> Self
-        ensures { result ≡ fresh_device w0 w1 w2 w3 limit start }
+    pub fn fresh(windows: [Window; 4], limit: u32, start: Start) -> Self
+        ensures { result ≡ fresh_device windows limit start }
     {
         let rings = [
-            fresh_ring(w0),
-            fresh_ring(w1),
-            fresh_ring(w2),
-            fresh_ring(w3),
+            fresh_ring(windows[0]),
+            fresh_ring(windows[1]),
+            fresh_ring(windows[2]),
+            fresh_ring(windows[3]),
         ];
-        let slots = [first_of(start); 64];
-        Device::of(rings, slots, 0, limit, Counts::none(), edition_of(start))
+        let slots = [start.first(); 64];
+        Device::of(rings, slots, 0, limit, Counts::none(), start.edition())
     }
 
     // What a refused making hands out.
@@ -98,14 +98,7 @@ impl Device {
             start: 0,
             length: 0,
         };
-        Device::fresh(
-            window,
-            window,
-            window,
-            window,
-            DEFAULT_LIMIT,
-            Start::Edition1,
-        )
+        Device::fresh([window; 4], DEFAULT_LIMIT, Start::Edition1)
     }
 
     #[tactic(auto, unfolding(crate::specs::Device::ring_of))]
@@ -121,8 +114,7 @@ impl Device {
     pub fn slot(self, n: u8) -> u32
         ensures { result ≡ slot_of self n }
     {
-        let at = n as usize;
-        if at < 64 { self.slots[at] } else { 0 }
+        self.slots.get(n as usize).copied().unwrap_or(0)
     }
 
     #[tactic(auto, unfolding(crate::specs::Device::with_ring))]

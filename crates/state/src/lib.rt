@@ -7,4 +7,5 @@ pub mod edition;
 pub mod plus_one;
 pub mod ready;
 pub mod refusal;
+pub mod rings;
 pub mod slots;

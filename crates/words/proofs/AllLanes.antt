@@ -7,7 +7,7 @@ use lib.Bits.{bit_xor, bit_and, bit_or, and_block, or_block, xor_block, and_le_r
 use lib.Pow.{ones_lt, ones_split}
 use Rattle.words.specs.Arithmetic.{sum, difference}
 use Rattle.words.specs.Lanes.{lanewise}
-use Rattle.words.proofs.BitwiseLaws.{le_or}
+use Rattle.std.proofs.lemmas.Nat.{le_or_r}
 use Rattle.words.proofs.LaneLaws.{lanewise-whole}
 use Rattle.words.proofs.HeldBack.{held_sum, held_difference, sum-lane, difference-lane}
 
@@ -45,7 +45,7 @@ module _ (m h H l L x y r s : ℕ) (fit-H : H < 2 ^ m) (fit-L : L + L < 2 ^ m) (
     taken : bit_or (x * 2 ^ m + r) (h * 2 ^ m + H) - bit_and (y * 2 ^ m + s) (l * 2 ^ m + L) ≡ (bit_or x h - bit_and y l) * 2 ^ m + (bit_or r H - bit_and s L)
     taken =
         ap₂ ◌-◌ (or_block m x h r H fit-r fit-H) (and_block m y l s L fit-s once_L)
-        ∙ apart (bit_or x h) (bit_and y l) (bit_or r H) (bit_and s L) (omega (arith, and_le_r y l, le_or x h)) (omega (arith, and_le_r s L, le_or r H))
+        ∙ apart (bit_or x h) (bit_and y l) (bit_or r H) (bit_and s L) (omega (arith, and_le_r y l, le_or_r x h)) (omega (arith, and_le_r s L, le_or_r r H))
       where
         apart : (p q u v : ℕ) → q ≤ p → v ≤ u → p * 2 ^ m + u - (q * 2 ^ m + v) ≡ (p - q) * 2 ^ m + (u - v)
         apart p q u v hp hv = omega (arith, sym (ap (λ (t : ℕ). t * 2 ^ m) (sub-add_cancel hp)) ∙ add-mul (p - q) q (2 ^ m))

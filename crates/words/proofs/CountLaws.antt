@@ -1,8 +1,9 @@
 -- The counts of zeros at either end are the place of the first set bit, over the number of bits.
 -- Assumes nothing.
-use Rattle.std.proofs.Common.{◌≡◌, ℕ, zero, suc, ◌-◌, ◌*◌, ◌/◌, ◌%◌, ◌^◌, ◌<◌, ◌≤◌, cond, eqb, ◌⊎◌, sym, refl, ap, ◌∙◌, ap₂, inl, inr, le_refl, lt_of_lt_of_le, le_of_suc-le-suc, lt_irrefl, mod-eq_of_lt, zero-lt-suc, eq-zero-or-pos, one-mul, div-one, arith, pow_mono}
+use Rattle.std.proofs.Common.{◌≡◌, ℕ, zero, suc, ◌-◌, ◌*◌, ◌/◌, ◌%◌, ◌^◌, ◌<◌, ◌≤◌, cond, eqb, ◌⊎◌, sym, refl, ap, ◌∙◌, ap₂, inl, inr, le_refl, le_of_suc-le-suc, lt_irrefl, mod-eq_of_lt, zero-lt-suc, eq-zero-or-pos, one-mul, div-one, arith}
 use mathlib.Core.Path.{fun_ext}
-use native.Mathlib.Nat.{zero-div, zero-mod, div-eq_of_lt, div-eq_of_lt-le, div-div-eq-div-mul, pow-succ'}
+use native.Mathlib.Nat.{zero-div, zero-mod, div-eq_of_lt-le, div-div-eq-div-mul, pow-succ'}
+use Rattle.std.proofs.lemmas.Nat.Bits.{bit_at_above}
 use lib.Dec.{eqb-suc-zero}
 use lib.Arith.{sub-sub_self}
 use lib.Count.{count_leading_zeros, count_trailing_zeros, under, leading_of_zero, leading_le, leading_top}
@@ -26,10 +27,7 @@ trailing_first (suc k) x =
     ∙ ap₂ (λ (d t : ℕ). cond (eqb d 0) (suc t) 0) (ap (λ (y : ℕ). y % 2) (sym (div-one x)))
     (trailing_first k (x / 2) ∙ ap (λ (b : ℕ → ℕ). first_set b k) (fun_ext (λ i. sym (bit_of_half i x))))
 
--- the highest set bit j of a number that has k + 1 bits: the bits above it are clear
-bit_above : (x j i : ℕ) → x < 2 ^ suc j → j < i → bit i x ≡ 0
-bit_above x j i h l = rw (div-eq_of_lt (lt_of_lt_of_le h (pow_mono l)))
-
+-- the highest set bit j of a number that has k + 1 bits
 bit_top : (x j : ℕ) → 2 ^ j ≤ x → x < 2 ^ suc j → bit j x ≡ 1
 bit_top x j l h = rw (div-eq_of_lt-le {k = 1} (2 ^ j) {m = x} (omega arith) (omega (arith, pow-succ' 2 j)))
 
@@ -48,7 +46,7 @@ leading_first k x h = first_only (λ i. bit (k - i) x) (suc k) (count_leading_ze
         let place : k - count_leading_zeros (suc k) x ≡ top.0 = omega (arith, top.1) in
         record {
           within = leading_le (suc k) x;
-          clear = λ i l. bit_above x top.0 (k - i) top.3 (omega (arith, top.1));
+          clear = λ i l. bit_at_above x (suc top.0) (k - i) top.3 (omega (arith, top.1));
           set = λ l. rw (place, bit_top x top.0 top.2 top.3) (zero-lt-suc 0);
         }
 

@@ -1,4 +1,3 @@
-pub mod Powers
 pub mod Order
 pub mod LaneLaws
 pub mod FirstSet
@@ -14,3 +13,5 @@ pub mod AllLanes
 pub mod LaneTypes
 pub mod Choices
 pub mod EachBelow
+pub mod LaneProducts
+pub mod AllInRange

@@ -7,42 +7,38 @@ use crate::signed::below_signed;
 pub fn add(a: u32, b: u32) -> u32
     ensures { result ≡ sum 32 a b }
 {
-    std::num::wrapping_add_u32(a, b)
+    a.wrapping_add(b)
 }
 
 pub fn sub(a: u32, b: u32) -> u32
     ensures { result ≡ difference 32 a b }
 {
-    std::num::wrapping_sub_u32(a, b)
+    a.wrapping_sub(b)
 }
 
 pub fn mul(a: u32, b: u32) -> u32
     ensures { result ≡ product 32 a b }
 {
-    (a as u64 * b as u64 % 0x1_0000_0000) as u32
+    a.wrapping_mul(b)
 }
 
 pub fn shl(a: u32, b: u32) -> u32
     ensures { result ≡ shifted_left a b }
 {
-    a << (b % 32)
+    a.wrapping_shl(b)
 }
 
 pub fn lsr(a: u32, b: u32) -> u32
     ensures { result ≡ shifted_right a b }
 {
-    a >> (b % 32)
+    a.wrapping_shr(b)
 }
 
 #[tactic(auto, unfolding(crate::specs::Arithmetic::shifted_signed))]
 pub fn asr(a: u32, b: u32) -> u32
     ensures { result ≡ shifted_signed a b }
 {
-    if a < 0x8000_0000 {
-        a >> (b % 32)
-    } else {
-        0xffff_ffff - ((0xffff_ffff - a) >> (b % 32))
-    }
+    a.cast_signed().wrapping_shr(b).cast_unsigned()
 }
 
 #[tactic(auto, unfolding(crate::specs::Arithmetic::least))]
@@ -63,9 +59,5 @@ pub fn max(a: u32, b: u32) -> u32
 pub fn abs(a: u32) -> u32
     ensures { result ≡ magnitude a }
 {
-    if a < 0x8000_0000 {
-        a
-    } else {
-        0xffff_ffff - a + 1
-    }
+    a.cast_signed().unsigned_abs()
 }

@@ -2,9 +2,10 @@
 ghost use Rattle.std.specs.Prelude.{◌≡◌};
 ghost use Rattle.words.specs.Lanes.{lanes_of};
 
-use crate::{arithmetic, bitwise, lanes8, lanes16};
+use crate::products::products;
+use crate::{arithmetic, at_once, bitwise};
 
-#[derive(Clone, Copy)]
+#[derive(Clone, Copy, Debug, PartialEq, Eq)]
 pub enum LaneOp {
     Add,
     Sub,
@@ -14,34 +15,36 @@ pub enum LaneOp {
     Mul,
 }
 
-#[derive(Clone, Copy)]
+#[derive(Clone, Copy, Debug, PartialEq, Eq)]
 pub enum LaneType {
     I32,
     I16,
     I8,
 }
 
+#[tactic(auto, unfolding(crate::specs::Lanes::lanes_of), using(crate::proofs::LaneTypes::whole_words))]
 pub fn lanes(op: LaneOp, ty: LaneType, a: u32, b: u32) -> u32
     ensures { result ≡ lanes_of op ty a b }
 {
     match op {
+        // The type is named at each call, so that its mask is a constant.
         LaneOp::Add => match ty {
-            LaneType::I32 => arithmetic::add(a, b),
-            LaneType::I16 => lanes16::add(a, b),
-            LaneType::I8 => lanes8::add(a, b),
+            LaneType::I32 => a.wrapping_add(b),
+            LaneType::I16 => at_once::add(LaneType::I16, a, b),
+            LaneType::I8 => at_once::add(LaneType::I8, a, b),
         },
         LaneOp::Sub => match ty {
-            LaneType::I32 => arithmetic::sub(a, b),
-            LaneType::I16 => lanes16::sub(a, b),
-            LaneType::I8 => lanes8::sub(a, b),
+            LaneType::I32 => a.wrapping_sub(b),
+            LaneType::I16 => at_once::sub(LaneType::I16, a, b),
+            LaneType::I8 => at_once::sub(LaneType::I8, a, b),
         },
-        LaneOp::Xor => bitwise::xor(a, b),
-        LaneOp::And => bitwise::and(a, b),
-        LaneOp::Or => bitwise::or(a, b),
+        LaneOp::Xor => a ^ b,
+        LaneOp::And => a & b,
+        LaneOp::Or => a | b,
         LaneOp::Mul => match ty {
-            LaneType::I32 => arithmetic::mul(a, b),
-            LaneType::I16 => lanes16::mul(a, b),
-            LaneType::I8 => lanes8::mul(a, b),
+            LaneType::I32 => a.wrapping_mul(b),
+            LaneType::I16 => products::<16>(a, b),
+            LaneType::I8 => products::<8>(a, b),
         },
     }
 }

@@ -1,6 +1,6 @@
 // Sign extension, and the signed order of words.
 ghost use Rattle.std.specs.Prelude.{◌≡◌, ◌^◌, ◌<◌};
-ghost use Rattle.words.specs.Signed.{extended, biased, below_signed};
+ghost use Rattle.words.specs.Signed.{extended, below_signed};
 
 // A number of `bits` bits as a word, its sign repeated.
 pub fn extend(bits: u32, x: u32) -> u32
@@ -14,16 +14,9 @@ pub fn extend(bits: u32, x: u32) -> u32
     }
 }
 
-// The place of a word in the signed order.
-fn bias(w: u32) -> u32
-    ensures { result ≡ biased w }
-{
-    std::num::wrapping_add_u32(w, 0x8000_0000)
-}
-
-#[tactic(auto, unfolding(crate::specs::Signed::below_signed))]
+#[tactic(auto, using(crate::proofs::SignedOrder::below_signed_lem))]
 pub fn below_signed(a: u32, b: u32) -> bool
     ensures { result ≡ below_signed a b }
 {
-    bias(a) < bias(b)
+    a.cast_signed() < b.cast_signed()
 }

@@ -1,5 +1,6 @@
 -- What every command keeps: the lengths of the window and the pipe, and that a frame passes its test.
 -- Assumes nothing.
+use Rattle.std.proofs.Common.{Option, Some}
 use mathlib.Core.Path.{◌≡◌, refl}
 use mathlib.Core.Bool.{Bool, true}
 use mathlib.Core.List.{List}
@@ -9,25 +10,25 @@ use Rattle.memory.proofs.Lengths.{filled-length, copied-length, blitted-length, 
 use Rattle.kernel.proofs.Windows.{dispatch-length}
 use Rattle.command.specs.declared.header.Command.{Command}
 use Rattle.command.specs.declared.frame.Frame.{Frame}
-use Rattle.command.specs.Opcode.{set_fb}
+use Rattle.command.specs.declared.opcode.Opcode.TheVariants.{SetFb}
 use Rattle.command.specs.Outcome.{is_done}
 use Rattle.command.specs.Table.{row_of}
-use Rattle.command.specs.Frame.{frame_fault, held_fault}
+use Rattle.command.specs.Frame.{held_by, frame_fault, held_fault}
 use Rattle.work.specs.Shape.{is_rectangle}
 use Rattle.work.specs.Checks.{misaligned, unframed, outside, unfit_frame, unfit_dispatch, check_of}
-use Rattle.work.specs.Work.{Left, leaves, ran_as, dispatched_by, after_dispatch, held_by}
+use Rattle.work.specs.Work.{Left, leaves, ran_as, dispatched_by, after_dispatch}
 use Rattle.work.specs.Perform.{performed_of}
 use Rattle.work.proofs.Faultless.{check_done}
 use Rattle.work.proofs.Works.{work_has}
 use Rattle.work.proofs.Performs.{performed_has}
 
 -- SET_FB is checked as its frame is
-pub set_fb_check : (c : Command) (length : ℕ) (frame : Frame) (pack : List ℕ) → c.opcode ≡ set_fb
-    → check_of c length frame pack ≡ frame_fault c.arg0 c.arg1 c.arg2 length
+pub set_fb_check : (c : Command) (length : ℕ) (frame : Option Frame) (pack : List ℕ) → c.opcode ≡ Some SetFb
+    → check_of c length frame pack ≡ frame_fault (held_by c) length
 unfolding check_of misaligned unframed outside unfit_frame unfit_dispatch is_rectangle row_of frame_fault
 set_fb_check c length frame pack e = rw e
 
-module _ (c : Command) (full : Bool) (ring window : List ℕ) (frame : Frame) (pack pipe : List ℕ) (limit : ℕ) where
+module _ (c : Command) (full : Bool) (ring window : List ℕ) (frame : Option Frame) (pack pipe : List ℕ) (limit : ℕ) where
   abbrev pub left : Left
   left = performed_of c full ring window frame pack pipe limit
 
@@ -56,7 +57,7 @@ module _ (c : Command) (full : Bool) (ring window : List ℕ) (frame : Frame) (p
       (λ faulty. (refl, refl))
 
   pub performed-frame : is_done (held_fault frame (length window)) ≡ true → Held left
-  unfolding leaves after_dispatch ran_as held_by held_fault
+  unfolding leaves after_dispatch ran_as held_fault
   performed-frame held =
       performed_has c full ring window frame pack pipe limit Held
       (λ fine.

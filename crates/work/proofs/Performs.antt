@@ -1,19 +1,19 @@
 -- A command is its work if it has no fault, and else the fault alone.
 -- Assumes nothing.
+use Rattle.std.proofs.Common.{Option}
 use mathlib.Core.Path.{◌≡◌}
 use mathlib.Core.Bool.{Bool, true, false}
 use mathlib.Core.List.{List}
 use Prim.Native.Nat.{ℕ}
 use lib.ListN.{length}
-use Rattle.command.specs.declared.outcome.Outcome.{Outcome}
 use Rattle.command.specs.declared.header.Command.{Command}
 use Rattle.command.specs.declared.frame.Frame.{Frame}
-use Rattle.command.specs.Outcome.{is_done}
+use Rattle.command.specs.Outcome.{Outcome, is_done}
 use Rattle.work.specs.Work.{Left, leaves, work_of}
 use Rattle.work.specs.Perform.{fault_of, guarded, performed_of}
 use Rattle.words.proofs.Choices.{cond_has}
 
-module _ (c : Command) (full : Bool) (ring window : List ℕ) (frame : Frame) (pack pipe : List ℕ) (limit : ℕ) where
+module _ (c : Command) (full : Bool) (ring window : List ℕ) (frame : Option Frame) (pack pipe : List ℕ) (limit : ℕ) where
   abbrev pub fault_here : Outcome
   fault_here = fault_of c full (length window) frame pack
 

@@ -1,5 +1,6 @@
 -- What is reported of a command goes by its header, its slot and its outcome.
 -- Assumes nothing.
+use Rattle.std.proofs.Common.{Ok, Err, Option}
 use mathlib.Core.Path.{◌≡◌, refl, ap, ◌∙◌}
 use mathlib.Core.Bool.{Bool, true, false, ◌&&◌, or-true}
 use mathlib.Core.List.{List}
@@ -7,13 +8,13 @@ use mathlib.Core.Logic.{inl, inr, ⊎_elim}
 use Prim.Native.Nat.{ℕ, ◌≤◌, ◌<◌}
 use native.Mathlib.Omega.{arith}
 use lib.ListN.{length}
-use borrow.Author.Tests.{le-leb, lt-leb, eqb-false}
-use Rattle.command.specs.declared.outcome.Outcome.{Outcome}
+use borrow.Author.Tests.{le-leb, lt-leb}
 use Rattle.command.specs.declared.header.Command.{Command}
 use Rattle.command.specs.declared.frame.Frame.{Frame}
-use Rattle.command.specs.Outcome.{outcome_number, is_done}
+use Rattle.command.specs.Outcome.{Outcome, outcome_number, is_done}
 use Rattle.command.specs.Flags.{irq_bit, emit_bit}
 use Rattle.command.specs.Faults.{header_fault}
+use Rattle.command.proofs.Outcomes.{number_done, fault_number-least}
 use Rattle.work.specs.Checks.{slot_fault, check_of}
 use Rattle.command.specs.Report.{done_or_from, emits, interrupts}
 use Rattle.work.specs.Work.{Left, leaves, work_of}
@@ -24,20 +25,22 @@ use Rattle.work.proofs.Performs.{performed_fault, performed_has}
 -- a fault hides the next; none lets it through
 or_else_fault : (fault next : Outcome) → is_done fault ≡ false → or_else fault next ≡ fault
 unfolding or_else
-or_else_fault fault next e = rw e
+or_else_fault (Ok unit) next e = cc
+or_else_fault (Err fault) next e = refl
 
 or_else-next : (fault next : Outcome) → is_done fault ≡ true → or_else fault next ≡ next
 unfolding or_else
-or_else-next fault next e = rw e
+or_else-next (Ok unit) next e = refl
+or_else-next (Err fault) next e = cc
 
 -- a fault that is not done is in its range
 fault_range : (low high : ℕ) (o : Outcome) → DoneOr low high o → is_done o ≡ false → (low ≤ outcome_number o) × (outcome_number o ≤ high)
-fault_range low high o (inl e) faulty = absurd (eqb-false (outcome_number o) 0 faulty e)
+fault_range low high o (inl e) faulty = absurd (omega (arith, e, fault_number-least o faulty))
 fault_range low high o (inr h) faulty = h
 
 -- outcomes 0 and from `low` on, and those below it
 from_holds : (low least most : ℕ) (o : Outcome) → low ≤ least → DoneOr least most o → done_or_from low o ≡ true
-from_holds low least most o h (inl e) = rw e
+from_holds low least most o h (inl e) = rw (number_done o e)
 from_holds low least most o h (inr r) = rw (le-leb low (outcome_number o) (omega arith)) (or-true (is_done o))
 
 from_fails : (low least most : ℕ) (o : Outcome) → 1 ≤ least → most < low → DoneOr least most o → is_done o ≡ false → done_or_from low o ≡ false
@@ -45,7 +48,7 @@ from_fails low least most o h below range faulty =
     let r = fault_range least most o range faulty in
     rw (faulty, lt-leb low (outcome_number o) (omega arith))
 
-module _ (c : Command) (full : Bool) (ring window : List ℕ) (frame : Frame) (pack pipe : List ℕ) (limit : ℕ) where
+module _ (c : Command) (full : Bool) (ring window : List ℕ) (frame : Option Frame) (pack pipe : List ℕ) (limit : ℕ) where
   abbrev left : Left
   left = performed_of c full ring window frame pack pipe limit
 

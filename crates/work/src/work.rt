@@ -6,14 +6,14 @@ ghost use Rattle.command.specs.Frame.{stride_of};
 ghost use Rattle.work.specs.Shape.{width_of, height_of};
 ghost use Rattle.work.specs.Checks.{unframed, outside};
 ghost use Rattle.command.specs.Table.{row_of};
-ghost use Rattle.work.specs.Work.{Shows, without_stop, held_by, stop_outcome, ran_outcome, ran_as, dispatched_by, work_of};
+ghost use Rattle.work.specs.Work.{Shows, without_stop, stop_outcome, ran_outcome, ran_as, dispatched_by, work_of};
 
-use crate::shape::{height, width};
-use command::frame::{Frame, stride_of};
+use crate::shape::rectangle;
+use command::frame::Frame;
 use command::header::Command;
-use command::opcode;
-use command::outcome::Outcome;
-use kernel::dispatch::{Ran, dispatch};
+use command::opcode::Opcode;
+use command::outcome::{Fault, Outcome};
+use kernel::dispatch::{Grid, ThreadStop, dispatch};
 use kernel::site::{Site, site_of};
 use kernel::step::Stop;
 use memory::copy;
@@ -23,13 +23,13 @@ use memory::transfer::{read_words, write_words};
 #[derive(Clone, Copy)]
 pub struct Performed {
     pub outcome: Outcome,
-    pub frame: Frame,
+    pub frame: Option<Frame>,
     // Where a thread stopped, if one did.
     pub site: Site,
 }
 
 impl Performed {
-    pub fn without_stop(outcome: Outcome, frame: Frame) -> Self
+    pub fn without_stop(outcome: Outcome, frame: Option<Frame>) -> Self
         ensures { result ≡ without_stop outcome frame }
     {
         Performed {
@@ -41,73 +41,59 @@ impl Performed {
 }
 
 #[tactic(auto, unfolding(crate::specs::Work::stop_outcome))]
-fn stop_outcome(why: Stop) -> Outcome
+fn stop_outcome(why: Stop) -> Fault
     ensures { result ≡ stop_outcome why }
 {
     match why {
-        Stop::NotListed => Outcome::NotListed,
-        Stop::OffTheKernel => Outcome::OffTheKernel,
-        Stop::OutsideTheWindow(_) => Outcome::AccessOutside,
-        Stop::OutOfSteps => Outcome::OutOfSteps,
+        Stop::NotListed => Fault::NotListed,
+        Stop::OffTheKernel => Fault::OffTheKernel,
+        Stop::OutsideTheWindow(_) => Fault::AccessOutside,
+        Stop::OutOfSteps => Fault::OutOfSteps,
     }
 }
 
 #[tactic(auto, unfolding(crate::specs::Work::ran_outcome))]
-fn ran_outcome(ran: Ran) -> Outcome
+fn ran_outcome(ran: Result<(), ThreadStop>) -> Outcome
     ensures { result ≡ ran_outcome ran }
 {
     match ran {
-        Ran::Done => Outcome::Done,
-        Ran::Stopped(stop) => {
-            let why = stop.why;
-            stop_outcome(why)
-        }
+        Ok(()) => Ok(()),
+        Err(stop) => Err(stop_outcome(stop.why)),
     }
 }
 
-fn fill_rect(command: Command, window: &mut [u8], frame: Frame)
+fn fill_rect(command: Command, window: &mut [u8], frame: Option<Frame>)
     requires { rectangle_end command.arg0 (stride_of frame) (width_of command) (height_of command) ≤ length window.old }
     ensures { window.new ≡ filled command.arg0 (stride_of frame) (width_of command) (height_of command) command.arg2 window.old }
 {
-    let stride = stride_of(frame) as usize;
-    fill(
-        window,
-        command.arg0 as usize,
-        stride,
-        width(command),
-        height(command),
-        command.arg2,
-    );
+    let to = command.arg0 as usize;
+    fill(window, to, rectangle(command, frame), command.arg2);
 }
 
-fn blit_rect(command: Command, window: &mut [u8], frame: Frame)
+fn blit_rect(command: Command, window: &mut [u8], frame: Option<Frame>)
     requires { (rectangle_end command.arg0 (stride_of frame) (width_of command) (height_of command) ≤ length window.old) × (rectangle_end command.arg1 (stride_of frame) (width_of command) (height_of command) ≤ length window.old) × RowsApart (stride_of frame) (width_of command) (height_of command) }
     ensures { window.new ≡ blitted command.arg0 command.arg1 (stride_of frame) (width_of command) (height_of command) window.old }
 {
-    let stride = stride_of(frame) as usize;
     let to = command.arg0 as usize;
-    copy::blit(
-        window,
-        to,
-        command.arg1 as usize,
-        stride,
-        width(command),
-        height(command),
-    );
+    let from = command.arg1 as usize;
+    copy::blit(window, to, from, rectangle(command, frame));
 }
 
 #[tactic(auto, unfolding(crate::specs::Work::ran_as, crate::specs::Work::dispatched_by))]
-fn run(command: Command, window: &mut [u8], frame: Frame, pack: &[u8], limit: u32) -> Performed
+fn run(
+    command: Command,
+    window: &mut [u8],
+    frame: Option<Frame>,
+    pack: &[u8],
+    limit: u32,
+) -> Performed
     ensures { (result ≡ ran_as frame (dispatched_by command limit pack.now window.old).ran) × (window.new ≡ (dispatched_by command limit pack.now window.old).window) }
 {
-    let ran = dispatch(
-        pack,
-        command.arg2,
-        command.arg0,
-        command.arg1,
-        limit,
-        window,
-    );
+    let grid = Grid {
+        groups: command.arg0,
+        threads: command.arg1,
+    };
+    let ran = dispatch(pack, command.arg2, grid, limit, window);
     Performed {
         outcome: ran_outcome(ran),
         frame,
@@ -115,23 +101,12 @@ fn run(command: Command, window: &mut [u8], frame: Frame, pack: &[u8], limit: u3
     }
 }
 
-#[tactic(auto, unfolding(crate::specs::Work::held_by))]
-fn held(command: Command) -> Frame
-    ensures { result ≡ held_by command }
-{
-    Frame::Held {
-        base: command.arg0,
-        stride: command.arg1,
-        format: command.arg2,
-    }
-}
-
-#[tactic(auto, unfolding(command::specs::Table::row_of, crate::specs::Work::after_dispatch, crate::specs::Work::leaves))]
+#[tactic(auto, using(crate::proofs::Inside::write_inside, crate::proofs::Inside::read_inside, crate::proofs::Inside::copy_inside, crate::proofs::Inside::fill_inside, crate::proofs::Inside::blit_inside, crate::proofs::Inside::blit_rows_apart), unfolding(command::specs::Table::row_of, crate::specs::Work::after_dispatch, crate::specs::Work::leaves, crate::specs::Work::work_by, crate::specs::Work::work_of))]
 pub fn work(
     command: Command,
     ring: &[u8],
     window: &mut [u8],
-    frame: Frame,
+    frame: Option<Frame>,
     pack: &[u8],
     pipe: &mut [u8],
     limit: u32,
@@ -139,19 +114,19 @@ pub fn work(
     requires { (unframed command frame ≡ false) × (outside command (length window.old) frame ≡ false) × ((row_of command.opcode).payload ≡ true → command.payload + 4 * command.len ≤ length ring.now) × (1020 ≤ length pipe.old) }
     ensures { Shows result window.new pipe.new (work_of command ring.now window.old frame pack.now pipe.old limit) }
 {
-    let done = Performed::without_stop(Outcome::Done, frame);
+    let done = Performed::without_stop(Ok(()), frame);
     let to = command.arg0 as usize;
     let words = command.len as usize;
-    let opcode = command.opcode;
-    match opcode {
-        opcode::WRITE_MEM => write_words(window, to, ring, command.payload, words),
-        opcode::READ_MEM => read_words(window, to, words, pipe),
-        opcode::FILL_RECT => fill_rect(command, window, frame),
-        opcode::BLIT => blit_rect(command, window, frame),
-        opcode::COPY_BUFFER => copy::copy(window, to, command.arg1 as usize, words),
-        opcode::DISPATCH_1D => return run(command, window, frame, pack, limit),
-        opcode::SET_FB => return Performed::without_stop(Outcome::Done, held(command)),
-        _ => {}
+    match command.opcode {
+        Some(Opcode::WriteMem) => write_words(window, to, ring, command.payload, words),
+        Some(Opcode::ReadMem) => read_words(window, to, words, pipe),
+        Some(Opcode::FillRect) => fill_rect(command, window, frame),
+        Some(Opcode::Blit) => blit_rect(command, window, frame),
+        Some(Opcode::CopyBuffer) => copy::copy(window, to, command.arg1 as usize, words),
+        Some(Opcode::Dispatch1d) => return run(command, window, frame, pack, limit),
+        Some(Opcode::SetFb) => return Performed::without_stop(Ok(()), Some(command.frame())),
+        Some(Opcode::Barrier) => {}
+        None => {}
     }
     done
 }

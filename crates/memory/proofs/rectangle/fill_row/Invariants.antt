@@ -1,9 +1,7 @@
 use mathlib.Core.Path.{◌≡◌}
-use Prim.Native.Nat.{◌≤◌}
-use lib.ListN.{length}
 use Rattle.memory.specs.Rectangle.{words_put}
 use Rattle.memory.proofs.rectangle.fill_row.Given as goal
 
 abbrev pub invariant-loop-x : goal.invariant-loop-x
 invariant-loop-x l =
-    (l.x ≤ l.width) × (length l.window ≡ length l.initial.window) × (l.window ≡ words_put l.address l.x (λ i. l.color) l.initial.window)
+    l.window ≡ words_put l.address l.x (λ i. l.color) l.initial.window

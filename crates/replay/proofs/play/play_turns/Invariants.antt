@@ -8,8 +8,8 @@ use Rattle.replay.proofs.play.play_turns.Given as goal
 
 abbrev pub invariant-loop-report : goal.invariant-loop-report
 invariant-loop-report l =
-    In-play l.initial.d (call_of l.initial.memory l.r0 l.r1 l.r2 l.r3 l.pack empty_pipe) (length l.initial.memory) l.initial.text
-    l.d (call_of l.memory l.r0 l.r1 l.r2 l.r3 l.pack l.pipe) l.text l.turns l.n
+    In-play l.initial.d (call_of l.initial.memory l.rings.ring0.now l.rings.ring1.now l.rings.ring2.now l.rings.ring3.now l.pack empty_pipe) (length l.initial.memory) l.initial.text.bytes
+    l.d (call_of l.memory l.rings.ring0.now l.rings.ring1.now l.rings.ring2.now l.rings.ring3.now l.pack l.pipe) l.text.bytes l.turns l.text.size
 
 abbrev pub decreases-loop-report : goal.decreases-loop-report
-decreases-loop-report l = untaken_in (ring_in (call_of [] l.r0 l.r1 l.r2 l.r3 [] [])) l.d
+decreases-loop-report l = untaken_in (ring_in (call_of [] l.rings.ring0.now l.rings.ring1.now l.rings.ring2.now l.rings.ring3.now [] [])) l.d

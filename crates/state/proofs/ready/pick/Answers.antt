@@ -4,15 +4,15 @@ use Rattle.state.specs.Device.{ring_of}
 use Rattle.state.proofs.Seeks.{told, next_below, seek-none, seek-here, seek_on}
 use Rattle.state.proofs.ready.pick.Goals as goal
 
-pub loop-untried-preserved : goal.loop-untried-preserved
+pub loop-preserved : goal.loop-preserved
 unfolding ring_of
-loop-untried-preserved c =
-    let i = c.loop-untried.invariant in
-    (omega arith, rw c.next_ring-q.ensures (next_below _ i.1), rw c.next_ring-q.ensures (i.2 ∙ seek_on _ _ _ (omega arith) (told _ _ _ refl c.bytes_of_ring.ensures c.is_ready.ensures c.if-is_ready.false)))
+loop-preserved c =
+    let i = c.loop.invariant in
+    (omega arith, rw c.next_ring-q.ensures (next_below _ i.1), rw c.next_ring-q.ensures (i.2 ∙ seek_on _ _ _ _ (omega arith) (told _ _ _ refl c.ring.ensures c.is_ready.ensures c.if-is_ready.false)))
 
-pub returns-then-untried-eq0 : goal.returns-then-untried-eq0
-returns-then-untried-eq0 c = rw (c.loop-untried.invariant.2, c.if-untried-eq0.true, seek-none)
+pub returns : goal.returns
+returns c = rw c.loop.invariant.2 (seek-none _ _ _ (omega arith))
 
 pub returns-then-is_ready : goal.returns-then-is_ready
 unfolding ring_of
-returns-then-is_ready c = sym (c.loop-untried.invariant.2 ∙ seek-here _ _ _ (omega arith) (told _ _ _ refl c.bytes_of_ring.ensures c.is_ready.ensures c.if-is_ready.true))
+returns-then-is_ready c = sym (c.loop.invariant.2 ∙ seek-here _ _ _ (omega arith) (told _ _ _ refl c.ring.ensures c.is_ready.ensures c.if-is_ready.true))
