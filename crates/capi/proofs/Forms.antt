@@ -26,7 +26,7 @@ use Rattle.state.specs.declared.edition.Edition.{Edition}
 use Rattle.state.specs.declared.edition.Edition.TheVariants.{One, Two}
 use Rattle.state.specs.declared.edition.Start.{Start}
 use Rattle.state.specs.declared.edition.Start.TheVariants.{Edition1}
-use Rattle.state.specs.Edition.{first_of}
+use Rattle.state.specs.Edition.{edition_number, first_of}
 use Rattle.state.specs.Device.{Shaped, SlotsFit, CountsFit, empty_window, empty_windows, nth_window, default_limit, fresh_device, empty_device, ring_of, slot_of, commands_of, outcomes_of, with_ring, with_marker, with_counts}
 use Rattle.device.specs.Turn.{ring_in, unchanged, ring_after, device_after, finished, served_of}
 use Rattle.state.proofs.Seeks.{next_below}
@@ -36,7 +36,8 @@ use Rattle.device.proofs.Turns.{turn_cases, picked_servable}
 use Rattle.command.proofs.Sizes.{whole-inside}
 use Rattle.device.proofs.Untaken.{served-ring, other_ring}
 use Rattle.device.proofs.Shapes.{emit_fits, after-limit, after-counts-fit, after-shaped, fresh-shaped, made_each}
-use Rattle.capi.specs.Image.{held_of, base_of, format_of, ring_words, rings_words, counts_words, edition_number, last_words, words_of, window_at}
+use Rattle.capi.specs.Image.{held_of, base_of, format_of, ring_words, rings_words, counts_words, last_words, words_of, window_at}
+use Rattle.capi.specs.Calls.{windows_in}
 use Rattle.capi.specs.Inverse.{OfBytes, Formed}
 use Rattle.capi.specs.Follows.{FreshForms, TurnForms}
 use Rattle.capi.proofs.Fits.{Fits, fits-none, fits_more, fits_both, fits-left, fits-right, fits_alike}
@@ -214,7 +215,7 @@ fresh-forms windows memory limit start bytes first =
     (each_of_four (λ q. WindowFits (nth_window four q)) (at 0) (at 2) (at 4) (at 6)) (omega (arith, (limit_within limit fits).1)) first)
   where
     four : List Window
-    four = window_at windows 0 ∷ window_at windows 2 ∷ window_at windows 4 ∷ window_at windows 6 ∷ []
+    four = windows_in windows
 
     at : (k : ℕ) → WindowFits (window_at windows k)
     at k = (word_fits windows _ bytes, word_fits windows _ bytes)

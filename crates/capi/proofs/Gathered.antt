@@ -1,23 +1,14 @@
 -- What the library's `from_fn` gathers, where each call gives h of its index and leaves the closure as it was.
 -- Assumes nothing.
 use denote.Param.Members.{Mut}
-use mathlib.Core.List.{List, [], ◌∷◌}
-use mathlib.Core.Path.{◌≡◌, refl, sym, ◌∙◌, subst}
+use mathlib.Core.List.{List}
+use mathlib.Core.Path.{◌≡◌, ◌∙◌, subst}
 use Prim.Native.Nat.{ℕ, zero, suc, ◌+◌, ◌<◌}
 use native.Mathlib.Nat.{add-zero, zero-add}
 use native.Mathlib.Omega.{arith}
-use lib.ListN.{length, get_or}
+use lib.ListN.{get_or}
 use Rattle.std.specs.Array.{IsFromFnResult, IsFromFnResultFrom}
 use Rattle.std.specs.Fn.{Called}
-
--- four are their list
-pub four : {B : Type 0} (x : B) (ys : List B) → length ys ≡ 4 → get_or ys 0 x ∷ get_or ys 1 x ∷ get_or ys 2 x ∷ get_or ys 3 x ∷ [] ≡ ys
-four x (a ∷ b ∷ c ∷ d ∷ []) h = refl
-four x [] h = absurd (omega arith)
-four x (a ∷ []) h = absurd (omega arith)
-four x (a ∷ b ∷ []) h = absurd (omega arith)
-four x (a ∷ b ∷ c ∷ []) h = absurd (omega arith)
-four x (a ∷ b ∷ c ∷ d ∷ e ∷ ys) h = absurd (omega arith)
 
 module _ {F B : Type 0} (g : Mut F (ℕ × Unit {0}) B) (f : F) (h : ℕ → B)
     (each : (i : ℕ) (b : B) (q : F) → Called g f (i, tt) b q → (q ≡ f) × (b ≡ h i)) where
@@ -31,8 +22,3 @@ module _ {F B : Type 0} (g : Mut F (ℕ × Unit {0}) B) (f : F) (h : ℕ → B)
 
   pub gathered : {ys : List B} {n : ℕ} → IsFromFnResult g f ys n → (e : B) (j : ℕ) → j < n → get_or ys j e ≡ h j
   gathered {ys} {n} made e j l = rw zero-add at (gathered_from ys e 0 n made.each j l)
-
-  pub four_gathered : {ys : List B} → IsFromFnResult g f ys 4 → B → ys ≡ h 0 ∷ h 1 ∷ h 2 ∷ h 3 ∷ []
-  four_gathered {ys} made e =
-      sym (four e ys made.long)
-      ∙ rw (gathered made e 0 (omega arith), gathered made e 1 (omega arith), gathered made e 2 (omega arith), gathered made e 3 (omega arith))

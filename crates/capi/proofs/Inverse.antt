@@ -6,7 +6,7 @@ use mathlib.Core.List.{List, [], ◌∷◌, ◌++◌, append_assoc}
 use Prim.Native.Nat.{ℕ, ◌+◌, ◌≤◌}
 use native.Mathlib.Nat.{add-zero, zero-add}
 use native.Mathlib.Omega.{arith}
-use lib.ListN.{take, drop}
+use lib.ListN.{length, get_or, take, drop}
 use lib.Seq.{take_all, take_at, drop_at, drop-append-add}
 use Rattle.command.specs.declared.frame.Frame.{Frame}
 use Rattle.command.specs.Frame.{stride_of}
@@ -14,11 +14,20 @@ use Rattle.state.specs.declared.device.Ring.{Ring}
 use Rattle.state.specs.declared.edition.Edition.{Edition}
 use Rattle.state.specs.declared.edition.Edition.TheVariants.{One, Two}
 use Rattle.state.specs.Device.{empty_window, fresh_ring, ring_of}
-use Rattle.capi.specs.Image.{word_in, words_in, held_of, base_of, format_of, ring_words, rings_words, counts_words, words_of, encode, frame_of, window_at, ring_at, counts_in, edition_number, last_words, edition_by, decode, image_length, image_words, edition_at, outcomes_at, commands_at, limit_at, marker_at, slots_at}
+use Rattle.state.specs.Edition.{edition_number}
+use Rattle.capi.specs.Image.{word_in, words_in, held_of, base_of, format_of, ring_words, rings_words, counts_words, words_of, encode, frame_of, window_at, ring_at, counts_in, last_words, edition_by, decode, image_length, image_words, edition_at, outcomes_at, commands_at, limit_at, marker_at, slots_at}
 use Rattle.capi.specs.Inverse.{Normal, NormalFrame, held, unset, NormalEdition, one, two, DecodeEncode, EncodeDecode}
-use Rattle.capi.proofs.Gathered.{four}
 use Rattle.capi.proofs.Sizes.{words-length, counts-length}
 use Rattle.capi.proofs.WordBytes.{words_in-bytes, words_in-append, bytes_of_words_in}
+
+-- four are their list
+four : {B : Type 0} (x : B) (ys : List B) → length ys ≡ 4 → get_or ys 0 x ∷ get_or ys 1 x ∷ get_or ys 2 x ∷ get_or ys 3 x ∷ [] ≡ ys
+four x (a ∷ b ∷ c ∷ d ∷ []) h = refl
+four x [] h = absurd (omega arith)
+four x (a ∷ []) h = absurd (omega arith)
+four x (a ∷ b ∷ []) h = absurd (omega arith)
+four x (a ∷ b ∷ c ∷ []) h = absurd (omega arith)
+four x (a ∷ b ∷ c ∷ d ∷ e ∷ ys) h = absurd (omega arith)
 
 frame_back : (f : Option Frame) → frame_of (held_of f) (base_of f) (stride_of f) (format_of f) ≡ f
 unfolding frame_of

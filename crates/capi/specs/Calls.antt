@@ -1,5 +1,6 @@
 -- What the calls leave in the bytes that they are lent, and what they answer.
 use Rattle.std.specs.Prelude.{ℕ, ◌*◌, ◌≡◌, Bool, cond, List, [], ◌∷◌, eqb, length}
+use Rattle.state.specs.declared.device.Window.{Window}
 use Rattle.state.specs.declared.device.Device.{Device}
 use Rattle.state.specs.declared.edition.Start.{Start}
 use Rattle.state.specs.declared.edition.Start.TheVariants.{Edition1}
@@ -26,10 +27,13 @@ pub record Freshens (i : List ℕ) (r : ℕ) (f : Freshened) : Type 0 where
 abbrev pub windows_length : ℕ
 windows_length = 4 * 8
 
+-- the four windows of their bytes
+abbrev pub windows_in : List ℕ → List Window
+windows_in windows = window_at windows 0 ∷ window_at windows 2 ∷ window_at windows 4 ∷ window_at windows 6 ∷ []
+
 -- a fresh device of four windows, with a limit and a start named
 abbrev pub fresh_for : List ℕ → ℕ → ℕ → Start → Fresh
-fresh_for windows memory limit start =
-    fresh_with memory (window_at windows 0 ∷ window_at windows 2 ∷ window_at windows 4 ∷ window_at windows 6 ∷ []) limit start
+fresh_for windows memory limit start = fresh_with memory (windows_in windows) limit start
 
 -- what a making gives: its device's image and its number
 abbrev pub freshened : Fresh → Freshened

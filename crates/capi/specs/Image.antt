@@ -12,6 +12,7 @@ use Rattle.state.specs.declared.device.Window.{Window}
 use Rattle.state.specs.declared.device.Ring.{Ring}
 use Rattle.state.specs.declared.device.Device.{Device}
 use Rattle.state.specs.Device.{device_of, ring_of}
+use Rattle.state.specs.Edition.{edition_number}
 
 -- how many words a ring has
 abbrev pub ring_size : ℕ
@@ -83,11 +84,6 @@ rings_words d = ring_words (ring_of d 0) ++ ring_words (ring_of d 1) ++ ring_wor
 -- the words of the counts
 unfoldable pub counts_words : Counts → List ℕ
 counts_words counts = counts.commands ++ counts.outcomes
-
--- an edition is its number
-abbrev pub edition_number : Edition → ℕ
-edition_number One = 1
-edition_number Two = 2
 
 -- the words after the slots
 abbrev pub last_words : Device → List ℕ

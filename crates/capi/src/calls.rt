@@ -1,17 +1,17 @@
 // The calls over images, for Rattle code. Nothing is asked of what is lent.
-ghost use Rattle.std.specs.Prelude.{◌≡◌, length};
+ghost use Rattle.std.specs.Prelude.{◌≡◌};
 ghost use Rattle.device.specs.Turn.{call_of};
-ghost use Rattle.capi.specs.Image.{image_length};
-ghost use Rattle.capi.specs.Calls.{is_served, image_after, fresh_with_call, fresh_call, Freshens, turn_call, Leaves};
+ghost use Rattle.capi.specs.Calls.{is_served, image_after, windows_in, fresh_with_call, fresh_call, Freshens, turn_call, Leaves};
 
 use crate::image::{IMAGE_BYTES, device_in, put_device};
-use crate::lent::{put_words, window_at};
-use crate::report::{REPORT_BYTES, report_words};
+use crate::lent::window_at;
+use crate::report::{REPORT_BYTES, put_report};
 use device::fresh::make_with;
 use device::turn::{Answer, turn};
-use state::device::{DEFAULT_LIMIT, Device};
+use state::device::{DEFAULT_LIMIT, Device, Window};
 use state::edition::Start;
 use state::rings::Rings;
+use std::array::from_fn;
 
 // An image, a report or windows of the wrong length: the call changes nothing.
 pub const WRONG_IMAGE: u32 = 201;
@@ -21,6 +21,12 @@ pub const WRONG_REPORT: u32 = 202;
 pub const WRONG_WINDOWS: u32 = 203;
 
 pub const WINDOWS_BYTES: usize = 4 * 8;
+
+fn four_windows(windows: &[u8; WINDOWS_BYTES]) -> [Window; 4]
+    ensures { result ≡ windows_in windows.now }
+{
+    from_fn(|q| window_at(windows, 2 * q))
+}
 
 // With a limit and a start named. `memory` is the memory's length.
 #[tactic(auto, unfolding(crate::specs::Calls::fresh_with_call))]
@@ -33,19 +39,13 @@ pub fn fresh_with_call(
 ) -> u32
     ensures { Freshens image.new result (fresh_with_call image.old windows.now memory limit start) }
 {
-    if image.len() != IMAGE_BYTES {
+    let Some(image) = image.as_mut_array::<IMAGE_BYTES>() else {
         return WRONG_IMAGE;
-    }
-    if windows.len() != WINDOWS_BYTES {
+    };
+    let Some(windows) = windows.as_array::<WINDOWS_BYTES>() else {
         return WRONG_WINDOWS;
-    }
-    let four_windows = [
-        window_at(windows, 0),
-        window_at(windows, 2),
-        window_at(windows, 4),
-        window_at(windows, 6),
-    ];
-    let fresh = make_with(memory, four_windows, limit, start);
+    };
+    let fresh = make_with(memory, four_windows(windows), limit, start);
     put_device(image, fresh.device);
     fresh.number()
 }
@@ -65,8 +65,7 @@ fn is_served(answer: Answer) -> bool
 
 // An image that no command changed keeps its bytes, in normal form or not.
 #[tactic(auto, unfolding(crate::specs::Calls::image_after))]
-fn put_if_served(image: &mut [u8], d: Device, answer: Answer)
-    requires { length image.old ≡ image_length }
+fn put_if_served(image: &mut [u8; IMAGE_BYTES], d: Device, answer: Answer)
     ensures { image.new ≡ image_after image.old d answer }
 {
     if is_served(answer) {
@@ -74,37 +73,26 @@ fn put_if_served(image: &mut [u8], d: Device, answer: Answer)
     }
 }
 
-#[tactic(auto, unfolding(crate::specs::Report::report_words, crate::specs::Calls::turn_call, crate::specs::Calls::untouched, crate::specs::Calls::called_of, crate::specs::Report::report_bytes))]
-pub fn turn_call<'a>(
+#[tactic(auto, unfolding(crate::specs::Calls::turn_call, crate::specs::Calls::untouched, crate::specs::Calls::called_of))]
+pub fn turn_call(
     image: &mut [u8],
     mem: &mut [u8],
-    r0: &'a [u8],
-    r1: &'a [u8],
-    r2: &'a [u8],
-    r3: &'a [u8],
+    rings: Rings<'_>,
     pack: &[u8],
     pipe: &mut [u8],
     report: &mut [u8],
 ) -> u32
-    ensures { Leaves image.new mem.new pipe.new report.new result (turn_call image.old report.old (call_of mem.old r0.now r1.now r2.now r3.now pack.now pipe.old)) }
+    ensures { Leaves image.new mem.new pipe.new report.new result (turn_call image.old report.old (call_of mem.old rings.entry.ring0.now rings.entry.ring1.now rings.entry.ring2.now rings.entry.ring3.now pack.now pipe.old)) }
 {
-    if image.len() != IMAGE_BYTES {
+    let Some(image) = image.as_mut_array::<IMAGE_BYTES>() else {
         return WRONG_IMAGE;
-    }
-    if report.len() != REPORT_BYTES {
+    };
+    let Some(report) = report.as_mut_array::<REPORT_BYTES>() else {
         return WRONG_REPORT;
-    }
-    let rings = Rings {
-        ring0: r0,
-        ring1: r1,
-        ring2: r2,
-        ring3: r3,
     };
     let turned = turn(device_in(image), mem, rings, pack, pipe);
     let device = turned.device;
     let answer = turned.answer;
     put_if_served(image, device, answer);
-    let words = report_words(answer);
-    put_words(report, 0, &words);
-    words[0]
+    put_report(report, answer)
 }

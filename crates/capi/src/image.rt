@@ -1,7 +1,7 @@
 // The image of a device.
 ghost use Rattle.std.specs.Prelude.{◌≡◌, ◌+◌, ◌*◌, ◌≤◌, length};
 ghost use Rattle.std.proofs.lemmas.List.Edits.{sets};
-ghost use Rattle.capi.specs.Image.{ring_size, slots_at, marker_at, commands_at, image_length, bytes_of, held_of, base_of, format_of, ring_words, rings_words, frame_of, ring_at, counts_words, counts_in, edition_number, last_words, edition_by, encode, decode};
+ghost use Rattle.capi.specs.Image.{ring_size, marker_at, commands_at, bytes_of, held_of, base_of, format_of, ring_words, rings_words, frame_of, ring_at, counts_words, counts_in, last_words, edition_by, encode, decode};
 
 use crate::lent::{put_words, window_at, word_in, words_in};
 use command::frame::{Frame, stride_of};
@@ -79,8 +79,7 @@ fn put_ring(image: &mut [u8], k: usize, ring: Ring)
     put_words(image, k, &ring_words(ring));
 }
 
-fn put_rings(image: &mut [u8], d: Device)
-    requires { 4 * slots_at ≤ length image.old }
+fn put_rings(image: &mut [u8; IMAGE_BYTES], d: Device)
     ensures { image.new ≡ sets image.old 0 (bytes_of (rings_words d)) }
 {
     for q in 0..4 {
@@ -89,36 +88,24 @@ fn put_rings(image: &mut [u8], d: Device)
 }
 
 #[tactic(auto, unfolding(crate::specs::Image::counts_words))]
-fn put_counts(image: &mut [u8], counts: Counts)
-    requires { length image.old ≡ image_length }
+fn put_counts(image: &mut [u8; IMAGE_BYTES], counts: Counts)
     ensures { image.new ≡ sets image.old (4 * commands_at) (bytes_of (counts_words counts)) }
 {
     put_words(image, COMMANDS_AT, &counts.commands);
     put_words(image, OUTCOMES_AT, &counts.outcomes);
 }
 
-fn edition_number(edition: Edition) -> u32
-    ensures { result ≡ edition_number edition }
-{
-    match edition {
-        Edition::One => 1,
-        Edition::Two => 2,
-    }
-}
-
 // The words after the slots.
-fn put_last(image: &mut [u8], d: Device)
-    requires { length image.old ≡ image_length }
+fn put_last(image: &mut [u8; IMAGE_BYTES], d: Device)
     ensures { image.new ≡ sets image.old (4 * marker_at) (bytes_of (last_words d)) }
 {
     put_words(image, MARKER_AT, &[d.marker, d.limit]);
     put_counts(image, d.counts);
-    put_words(image, EDITION_AT, &[edition_number(d.edition)]);
+    put_words(image, EDITION_AT, &[d.edition.into()]);
 }
 
 #[tactic(auto, unfolding(crate::specs::Image::words_of, crate::specs::Image::encode))]
-pub fn put_device(image: &mut [u8], d: Device)
-    requires { length image.old ≡ image_length }
+pub fn put_device(image: &mut [u8; IMAGE_BYTES], d: Device)
     ensures { image.new ≡ encode d }
 {
     put_rings(image, d);
@@ -159,8 +146,7 @@ fn ring_at(image: &[u8], k: usize) -> Ring
 }
 
 #[tactic(auto, unfolding(crate::specs::Image::counts_in))]
-fn counts_in(image: &[u8]) -> Counts
-    requires { length image.now ≡ image_length }
+fn counts_in(image: &[u8; IMAGE_BYTES]) -> Counts
     ensures { result ≡ counts_in image.now }
 {
     Counts {
@@ -181,8 +167,7 @@ fn edition_by(word: u32) -> Edition
 }
 
 #[tactic(auto, unfolding(crate::specs::Image::decode))]
-pub fn device_in(image: &[u8]) -> Device
-    requires { length image.now ≡ image_length }
+pub fn device_in(image: &[u8; IMAGE_BYTES]) -> Device
     ensures { result ≡ decode image.now }
 {
     let rings = from_fn(|q| ring_at(image, RING_WORDS * q));

@@ -13,6 +13,7 @@ pub mod report;
 
 use crate::calls::{fresh_call, fresh_with_call, turn_call};
 use state::edition::Start;
+use state::rings::Rings;
 
 // `memory` is the memory's length.
 pub fn fv_fresh(device: &mut [u8], windows: &[u8], memory: u64) -> u32
@@ -60,7 +61,11 @@ pub fn fv_turn<'a>(
 ) -> u32
     ensures { Leaves device.new memory.new pipe.new report.new result (turn_call device.old report.old (call_of memory.old ring0.now ring1.now ring2.now ring3.now pack.now pipe.old)) }
 {
-    turn_call(
-        device, memory, ring0, ring1, ring2, ring3, pack, pipe, report,
-    )
+    let rings = Rings {
+        ring0,
+        ring1,
+        ring2,
+        ring3,
+    };
+    turn_call(device, memory, rings, pack, pipe, report)
 }

@@ -1,7 +1,9 @@
 // The report of a turn.
 ghost use Rattle.std.specs.Prelude.{◌≡◌};
-ghost use Rattle.capi.specs.Report.{report_words};
+ghost use Rattle.device.specs.Answer.{answer_number};
+ghost use Rattle.capi.specs.Report.{report_words, report_bytes};
 
+use crate::lent::put_words;
 use command::outcome::number;
 use device::turn::Answer;
 
@@ -34,4 +36,14 @@ pub fn report_words(answer: Answer) -> [u32; REPORT_WORDS]
             ]
         }
     }
+}
+
+// Also returns the first word, which is the answer's number.
+#[tactic(auto, unfolding(crate::specs::Report::report_words, crate::specs::Report::report_bytes))]
+pub fn put_report(report: &mut [u8; REPORT_BYTES], answer: Answer) -> u32
+    ensures { (report.new ≡ report_bytes answer) × (result ≡ answer_number answer) }
+{
+    let words = report_words(answer);
+    put_words(report, 0, &words);
+    words[0]
 }

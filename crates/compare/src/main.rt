@@ -21,10 +21,9 @@ const BODY_ROOM: usize = 262144;
 fn compare_all<R: Read>(calls: &mut R, body: &mut [u8]) -> Tally {
     let mut tally = Tally::none();
     for _ in 0..MOST_CALLS {
-        let n = record::next(calls, body);
-        if n == 0 {
+        let Some(n) = record::next(calls, body) else {
             break;
-        }
+        };
         tally = tally.with(compare(&body[..n]));
     }
     tally

@@ -7,7 +7,7 @@ use native.Mathlib.Omega.{arith}
 use borrow.Author.Tests.{le-leb}
 use lib.ListN.{length, replicate}
 use Rattle.words.specs.Lanes.{lanes_of, lanewise}
-use Rattle.instruction.specs.Rows.{scalar_row, plain_row, immediate_row, store_row, branch_row, system_row, lane_row, vector_row}
+use Rattle.instruction.specs.Rows.{scalar_row, plain_row, immediate_row, listed, width_by, store_row, cond_by, branch_row, system_row, lane_type_by, lane_row, vector_row}
 use Rattle.instruction.specs.Meaning.{alu_of, holds_of}
 use Rattle.instruction.specs.Decode.{unused_is0, vector_of, op_of, decoded}
 use Rattle.instruction.specs.Effect.{branch_effect, effect_of}
@@ -54,7 +54,7 @@ use Rattle.words.specs.Choice.{all_below}
 
 vadd : (vector 3 (after_word 0x0020A1AF (holding 0x010000FF 0x01000001)) ≡ broadcast 0x02000000)
     × (vector 3 (after_word 0x002091AF (holding 0x010000FF 0x01000001)) ≡ broadcast 0x02000100)
-unfolding after_word started start_registers executed decoded op_of vector_of unused_is0 vector_row lane_row effect_of applied goes_on advanced moved_to written_vector with_vector with_quad quad_of lanes_of_quads lanes_of lanewise
+unfolding after_word started start_registers executed decoded op_of vector_of unused_is0 listed lane_type_by lane_row vector_row effect_of applied goes_on advanced moved_to written_vector with_vector with_quad quad_of lanes_of_quads lanes_of lanewise
 vadd = (refl, refl)
 
 -- a dispatch that stops so and leaves a window of zeros
@@ -74,7 +74,7 @@ elsewhere : (dispatch_of 5 (pack_of 0x02502F0D) 0 1 1 (replicate 64 0) ≡ stopp
     × (dispatch_of 5 (pack_of_words (0x0010828B ∷ 0x0022828B ∷ 0x00229297 ∷ 0x0202A50D ∷ 0x0000700F ∷ [])) 0 3 2 (replicate 64 0) ≡ stopped (OutsideTheWindow 64) 12 2 1)
     × (dispatch_of 5 (pack_of_words (0xFFF00297 ∷ 0x0000020E ∷ [])) 0 1 1 (replicate 64 0) ≡ stopped OffTheKernel 4 0 0)
     × (dispatch_of 5 (pack_of_words (0xFFF00297 ∷ 0xFFFFFFFF ∷ [])) 0 1 1 (replicate 64 0) ≡ stopped NotListed 4 0 0)
-unfolding dispatch_of threads_of thread_more if_done thread_of shown ran_of run_of steps_of step_more if_running running step_of stops goes_on ends_thread lands branched after_store started start_registers executed decoded op_of scalar_row plain_row immediate_row store_row branch_row system_row effect_of branch_effect holds_of alu_of applied advanced moved_to written with_scalar scalar_of kernel_of kernel_count first_word kernel_words after half_at word_at reach_of first_outside if_inside store_of with_value with_word bytes_of_words
+unfolding dispatch_of threads_of thread_more if_done thread_of shown ran_of run_of steps_of step_more if_running running step_of stops goes_on ends_thread lands branched after_store started start_registers executed decoded op_of scalar_row plain_row immediate_row listed width_by store_row cond_by branch_row system_row effect_of branch_effect holds_of alu_of applied advanced moved_to written with_scalar scalar_of kernel_of kernel_count first_word kernel_words after half_at word_at reach_of first_outside if_inside store_of with_value with_word bytes_of_words
 elsewhere = (refl, refl, refl, refl)
 
 -- all at once, since they open the same definitions

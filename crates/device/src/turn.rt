@@ -1,9 +1,8 @@
 // A turn: one command taken from the first ready ring.
 ghost use Rattle.std.specs.Prelude.{◌≡◌, ◌+◌, ◌^◌, ◌<◌, length};
 ghost use Rattle.state.specs.Device.{ring_of};
-ghost use Rattle.device.specs.Turn.{emit_to, ring_after, device_after, report_of, finished, Shows, Servable, served_of, call_of, turn_of};
+ghost use Rattle.device.specs.Turn.{emit_to, device_after, report_of, Shows, Servable, served_of, call_of, turn_of};
 
-use command::frame::Frame;
 use command::header::{Command, command_at};
 use command::outcome::Outcome;
 use command::report::{emits_fence, raises_irq, words_read};
@@ -17,7 +16,7 @@ use work::perform::perform;
 use work::work::Performed;
 
 // What became of a command.
-#[derive(Clone, Copy)]
+#[derive(Clone, Copy, Debug, PartialEq, Eq)]
 pub struct Report {
     pub ring: u32,
     pub outcome: Outcome,
@@ -30,7 +29,7 @@ pub struct Report {
     pub site: Site,
 }
 
-#[derive(Clone, Copy)]
+#[derive(Clone, Copy, Debug, PartialEq, Eq)]
 pub enum Answer {
     Refused(Refusal),
     Idle,
@@ -55,27 +54,18 @@ fn emit_to(emitting: bool, d: Device, n: u8) -> Device
     }
 }
 
-#[tactic(auto, unfolding(crate::specs::Turn::ring_after))]
-fn ring_after(ring: Ring, command: Command, frame: Option<Frame>) -> Ring
-    requires { ring.cursor + command.size < 2 ^ 32 }
-    ensures { result ≡ ring_after ring command frame }
-{
-    let window = ring.window;
-    Ring {
-        window,
-        cursor: ring.cursor + command.size as u32,
-        frame,
-    }
-}
-
-#[tactic(auto, unfolding(crate::specs::Turn::device_after))]
+#[tactic(auto, unfolding(crate::specs::Turn::ring_after, crate::specs::Turn::device_after))]
 fn device_after(d: Device, q: u32, command: Command, done: Performed) -> Device
     requires { (q < 4) × ((ring_of d q).cursor + command.size < 2 ^ 32) }
     ensures { result ≡ device_after d q command done }
 {
     let outcome = done.outcome;
-    let frame = done.frame;
-    let ring = ring_after(d.ring(q), command, frame);
+    let at = d.ring(q);
+    let ring = Ring {
+        window: at.window,
+        cursor: at.cursor + command.size as u32,
+        frame: done.frame,
+    };
     let emitting = emits_fence(command, outcome);
     let next = emit_to(emitting, d.with_ring(q, ring), command.rdst);
     let marker = next_ring(q);
@@ -101,19 +91,8 @@ fn report_of(d: Device, q: u32, command: Command, done: Performed) -> Report
     }
 }
 
-#[tactic(auto, unfolding(crate::specs::Turn::finished))]
-fn finish(d: Device, q: u32, command: Command, done: Performed) -> Turned
-    requires { (q < 4) × ((ring_of d q).cursor + command.size < 2 ^ 32) }
-    ensures { result ≡ finished d q command done }
-{
-    Turned {
-        device: device_after(d, q, command, done),
-        answer: Answer::Served(report_of(d, q, command, done)),
-    }
-}
-
 // Ring q, whose bytes are `ring`, is served: its window is lent to its command.
-#[tactic(auto, unfolding(crate::specs::Turn::served_of))]
+#[tactic(auto, unfolding(crate::specs::Turn::finished, crate::specs::Turn::served_of))]
 fn serve(d: Device, q: u32, mem: &mut [u8], ring: &[u8], pack: &[u8], pipe: &mut [u8]) -> Turned
     requires { Servable d q (length mem.old) ring.now (length pipe.old) }
     ensures { Shows result mem.new pipe.new (served_of d q ring.now mem.old pack.now pipe.old) }
@@ -137,7 +116,10 @@ fn serve(d: Device, q: u32, mem: &mut [u8], ring: &[u8], pack: &[u8], pipe: &mut
         pipe,
         limit,
     );
-    finish(d, q, command, done)
+    Turned {
+        device: device_after(d, q, command, done),
+        answer: Answer::Served(report_of(d, q, command, done)),
+    }
 }
 
 // One turn. Anything may be handed in; a refused or idle turn changes nothing.

@@ -1,13 +1,16 @@
 -- The rows of the instruction table, each on the fields that it names.
-use Rattle.std.specs.Prelude.{ℕ, ◌+◌, ◌*◌, ◌^◌, cond, eqb}
+use Rattle.std.specs.Prelude.{ℕ, ◌+◌, ◌*◌, ◌^◌, cond, eqb, Option, Some, None}
 use Rattle.words.specs.declared.lanes.LaneOp.{LaneOp}
 use Rattle.words.specs.declared.lanes.LaneOp.TheVariants.{Add as VAdd, Sub as VSub, Xor as VXor, And as VAnd, Or as VOr, Mul as VMul}
+use Rattle.words.specs.declared.lanes.LaneType.{LaneType}
 use Rattle.words.specs.declared.lanes.LaneType.TheVariants.{I32, I16, I8}
+use Rattle.memory.specs.declared.access.Width.{Width}
 use Rattle.memory.specs.declared.access.Width.TheVariants.{Byte, Half, Word}
 use Rattle.instruction.specs.declared.list.Op.{Op}
 use Rattle.instruction.specs.declared.list.Op.TheVariants.{Alu, Unary, AluImm, Branch, Load, Store, Membar, Wfi, Vector, Vbcast, Vextr, Vld, Vst, Unlisted}
 use Rattle.instruction.specs.declared.list.AluOp.TheVariants.{Add, Sub, Mul, Shl, Lsr, Asr, Min, Max, Xor, Or, And}
 use Rattle.instruction.specs.declared.list.UnaryOp.TheVariants.{Abs, Clz, Ctz}
+use Rattle.instruction.specs.declared.list.Cond.{Cond}
 use Rattle.instruction.specs.declared.list.Cond.TheVariants.{Eq, Ne, Lt, Ge, Ltu, Geu}
 
 -- ADD 0, ABS or SHL 1, MIN 2, MAX 3, XOR 4, LSR 5, OR 6, AND 7; it is ABS exactly if the rs2 field is 0
@@ -52,23 +55,36 @@ immediate_row f3 high shamt imm =
     (cond (eqb f3 1) (cond (eqb high 0) (AluImm Shl shamt) Unlisted)
     (cond (eqb f3 5) (cond (eqb high 0) (AluImm Lsr shamt) (cond (eqb high 32) (AluImm Asr shamt) Unlisted)) Unlisted)))))
 
+-- the operation of what the fields name; where they name nothing the word is not in the list
+unfoldable pub listed : {A : Type 0} → (A → Op) → Option A → Op
+listed op None = Unlisted
+listed op (Some x) = op x
+
 -- BEQ 0, BNE 1, BLT 4, BGE 5, BLTU 6, BGEU 7
+unfoldable pub cond_by : ℕ → Option Cond
+cond_by f3 =
+    cond (eqb f3 0) (Some Eq)
+    (cond (eqb f3 1) (Some Ne)
+    (cond (eqb f3 4) (Some Lt)
+    (cond (eqb f3 5) (Some Ge)
+    (cond (eqb f3 6) (Some Ltu)
+    (cond (eqb f3 7) (Some Geu) None)))))
+
+-- a branch, by funct3
 unfoldable pub branch_row : ℕ → ℕ → Op
-branch_row f3 offset =
-    cond (eqb f3 0) (Branch Eq offset)
-    (cond (eqb f3 1) (Branch Ne offset)
-    (cond (eqb f3 4) (Branch Lt offset)
-    (cond (eqb f3 5) (Branch Ge offset)
-    (cond (eqb f3 6) (Branch Ltu offset)
-    (cond (eqb f3 7) (Branch Geu offset) Unlisted)))))
+branch_row f3 offset = listed (λ c. Branch c offset) (cond_by f3)
 
--- LB 0, LH 1, LW 2
+-- LB and SB 0, LH and SH 1, LW and SW 2
+unfoldable pub width_by : ℕ → Option Width
+width_by f3 = cond (eqb f3 0) (Some Byte) (cond (eqb f3 1) (Some Half) (cond (eqb f3 2) (Some Word) None))
+
+-- a load, by funct3
 unfoldable pub load_row : ℕ → ℕ → Op
-load_row f3 imm = cond (eqb f3 0) (Load Byte imm) (cond (eqb f3 1) (Load Half imm) (cond (eqb f3 2) (Load Word imm) Unlisted))
+load_row f3 imm = listed (λ width. Load width imm) (width_by f3)
 
--- SB 0, SH 1, SW 2
+-- a store, by funct3
 unfoldable pub store_row : ℕ → ℕ → Op
-store_row f3 imm = cond (eqb f3 0) (Store Byte imm) (cond (eqb f3 1) (Store Half imm) (cond (eqb f3 2) (Store Word imm) Unlisted))
+store_row f3 imm = listed (λ width. Store width imm) (width_by f3)
 
 -- MEMBAR 0, WFI 7, all other bits 0
 unfoldable pub system_row : ℕ → Op
@@ -76,12 +92,13 @@ system_row w =
     cond (eqb w (0b0001111 + 0 * 2 ^ 12)) Membar
     (cond (eqb w (0b0001111 + 7 * 2 ^ 12)) Wfi Unlisted)
 
--- funct3 0 I32, 1 I16, 2 I8, for every operation
+-- funct3: I32 0, I16 1, I8 2
+unfoldable pub lane_type_by : ℕ → Option LaneType
+lane_type_by f3 = cond (eqb f3 0) (Some I32) (cond (eqb f3 1) (Some I16) (cond (eqb f3 2) (Some I8) None))
+
+-- each operation has every type
 unfoldable pub lane_row : LaneOp → ℕ → ℕ → ℕ → ℕ → Op
-lane_row op f3 vd v1 v2 =
-    cond (eqb f3 0) (Vector op I32 vd v1 v2)
-    (cond (eqb f3 1) (Vector op I16 vd v1 v2)
-    (cond (eqb f3 2) (Vector op I8 vd v1 v2) Unlisted))
+lane_row op f3 vd v1 v2 = listed (λ ty. Vector op ty vd v1 v2) (lane_type_by f3)
 
 -- funct6: VADD 0, VSUB 1, VXOR 9, VAND 10, VOR 11, VMUL 12
 unfoldable pub vector_row : ℕ → ℕ → ℕ → ℕ → ℕ → Op

@@ -35,7 +35,7 @@ pub enum Cond {
     Geu,
 }
 
-#[derive(Clone, Copy)]
+#[derive(Clone, Copy, Debug, PartialEq, Eq)]
 pub enum Op {
     // rd is the operation of rs1 and rs2.
     Alu(AluOp),
@@ -72,7 +72,7 @@ pub enum Op {
     Unlisted,
 }
 
-#[derive(Clone, Copy)]
+#[derive(Clone, Copy, Debug, PartialEq, Eq)]
 pub struct Instr {
     pub op: Op,
     pub rd: u32,

@@ -1,6 +1,6 @@
 // The rows of the instruction table, each on the fields that it names.
 ghost use Rattle.std.specs.Prelude.{◌≡◌};
-ghost use Rattle.instruction.specs.Rows.{plain_row, other_row, product_row, count_row, scalar_row, immediate_row, branch_row, load_row, store_row, system_row, lane_row, vector_row, transfer_row, vld_row, vst_row};
+ghost use Rattle.instruction.specs.Rows.{plain_row, other_row, product_row, count_row, scalar_row, immediate_row, cond_by, branch_row, width_by, load_row, store_row, system_row, lane_type_by, lane_row, vector_row, transfer_row, vld_row, vst_row};
 
 use crate::list::{AluOp, Cond, Op, UnaryOp};
 use memory::access::Width;
@@ -103,43 +103,52 @@ pub fn immediate_row(funct3: u32, high: u32, shamt: u32, imm: u32) -> Op
     }
 }
 
-#[tactic(auto, unfolding(crate::specs::Rows::branch_row))]
+#[tactic(auto, unfolding(crate::specs::Rows::cond_by))]
+fn cond(funct3: u32) -> Option<Cond>
+    ensures { result ≡ cond_by funct3 }
+{
+    match funct3 {
+        0 => Some(Cond::Eq),
+        1 => Some(Cond::Ne),
+        4 => Some(Cond::Lt),
+        5 => Some(Cond::Ge),
+        6 => Some(Cond::Ltu),
+        7 => Some(Cond::Geu),
+        _ => None,
+    }
+}
+
+#[tactic(auto, unfolding(crate::specs::Rows::listed, crate::specs::Rows::branch_row))]
 pub fn branch_row(funct3: u32, offset: u32) -> Op
     ensures { result ≡ branch_row funct3 offset }
 {
+    cond(funct3).map_or(Op::Unlisted, |cond| Op::Branch(cond, offset))
+}
+
+#[tactic(auto, unfolding(crate::specs::Rows::width_by))]
+fn width(funct3: u32) -> Option<Width>
+    ensures { result ≡ width_by funct3 }
+{
     match funct3 {
-        0 => Op::Branch(Cond::Eq, offset),
-        1 => Op::Branch(Cond::Ne, offset),
-        4 => Op::Branch(Cond::Lt, offset),
-        5 => Op::Branch(Cond::Ge, offset),
-        6 => Op::Branch(Cond::Ltu, offset),
-        7 => Op::Branch(Cond::Geu, offset),
-        _ => Op::Unlisted,
+        0 => Some(Width::Byte),
+        1 => Some(Width::Half),
+        2 => Some(Width::Word),
+        _ => None,
     }
 }
 
-#[tactic(auto, unfolding(crate::specs::Rows::load_row))]
+#[tactic(auto, unfolding(crate::specs::Rows::listed, crate::specs::Rows::load_row))]
 pub fn load_row(funct3: u32, imm: u32) -> Op
     ensures { result ≡ load_row funct3 imm }
 {
-    match funct3 {
-        0 => Op::Load(Width::Byte, imm),
-        1 => Op::Load(Width::Half, imm),
-        2 => Op::Load(Width::Word, imm),
-        _ => Op::Unlisted,
-    }
+    width(funct3).map_or(Op::Unlisted, |width| Op::Load(width, imm))
 }
 
-#[tactic(auto, unfolding(crate::specs::Rows::store_row))]
+#[tactic(auto, unfolding(crate::specs::Rows::listed, crate::specs::Rows::store_row))]
 pub fn store_row(funct3: u32, imm: u32) -> Op
     ensures { result ≡ store_row funct3 imm }
 {
-    match funct3 {
-        0 => Op::Store(Width::Byte, imm),
-        1 => Op::Store(Width::Half, imm),
-        2 => Op::Store(Width::Word, imm),
-        _ => Op::Unlisted,
-    }
+    width(funct3).map_or(Op::Unlisted, |width| Op::Store(width, imm))
 }
 
 #[tactic(auto, unfolding(crate::specs::Rows::system_row))]
@@ -153,34 +162,23 @@ pub fn system_row(w: u32) -> Op
     }
 }
 
-#[tactic(auto, unfolding(crate::specs::Rows::lane_row))]
+#[tactic(auto, unfolding(crate::specs::Rows::lane_type_by))]
+fn lane_type(funct3: u32) -> Option<LaneType>
+    ensures { result ≡ lane_type_by funct3 }
+{
+    match funct3 {
+        0 => Some(LaneType::I32),
+        1 => Some(LaneType::I16),
+        2 => Some(LaneType::I8),
+        _ => None,
+    }
+}
+
+#[tactic(auto, unfolding(crate::specs::Rows::listed, crate::specs::Rows::lane_row))]
 fn lane_row(op: LaneOp, funct3: u32, vd: u32, v1: u32, v2: u32) -> Op
     ensures { result ≡ lane_row op funct3 vd v1 v2 }
 {
-    match funct3 {
-        0 => Op::Vector {
-            op,
-            ty: LaneType::I32,
-            vd,
-            v1,
-            v2,
-        },
-        1 => Op::Vector {
-            op,
-            ty: LaneType::I16,
-            vd,
-            v1,
-            v2,
-        },
-        2 => Op::Vector {
-            op,
-            ty: LaneType::I8,
-            vd,
-            v1,
-            v2,
-        },
-        _ => Op::Unlisted,
-    }
+    lane_type(funct3).map_or(Op::Unlisted, |ty| Op::Vector { op, ty, vd, v1, v2 })
 }
 
 #[tactic(auto, unfolding(crate::specs::Rows::vector_row))]

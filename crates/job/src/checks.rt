@@ -17,7 +17,6 @@ pub fn windows_are_sound(input: &[u8], windows: Section) -> bool
 
 #[tactic(auto, unfolding(crate::specs::Checks::kernels_sound))]
 pub fn kernels_are_sound(input: &[u8], kernels: Section) -> bool
-    requires { kernels.start ≤ 2 ^ 40 }
     ensures { result ≡ kernels_sound input.now kernels }
 {
     is_whole(input, kernels) & (kernels.count <= MOST_KERNELS)
@@ -26,7 +25,6 @@ pub fn kernels_are_sound(input: &[u8], kernels: Section) -> bool
 
 #[tactic(auto, unfolding(crate::specs::Checks::code_sound))]
 pub fn code_is_sound(input: &[u8], code: Section, kernels: Section) -> bool
-    requires { kernels.start ≤ 2 ^ 40 }
     ensures { result ≡ code_sound input.now code kernels }
 {
     is_whole(input, code) & (code.count <= MOST_CODE)

@@ -7,7 +7,6 @@ use pack::kernels::{first_word, kernel_words};
 // Kernel k of the pairs from `start` on has a word.
 #[tactic(auto, unfolding(crate::specs::Kernels::has_word))]
 pub fn has_word(input: &[u8], start: usize, k: u32) -> bool
-    requires { start ≤ 2 ^ 40 }
     ensures { result ≡ has_word input.now start k }
 {
     1 <= kernel_words(input, start, k)
@@ -16,7 +15,6 @@ pub fn has_word(input: &[u8], start: usize, k: u32) -> bool
 // Kernel k of the pairs from `start` on lies in `code` words.
 #[tactic(auto, unfolding(crate::specs::Kernels::lies_in_code))]
 pub fn lies_in_code(input: &[u8], start: usize, code: u32, k: u32) -> bool
-    requires { start ≤ 2 ^ 40 }
     ensures { result ≡ lies_in_code input.now start code k }
 {
     let first = first_word(input, start, k) as usize;

@@ -9,13 +9,13 @@ use state::device::Window;
 use std::cmp::min;
 
 // Bytes of the input, from `start` up to `end`.
-#[derive(Clone, Copy)]
+#[derive(Clone, Copy, Debug, PartialEq, Eq)]
 pub struct Part {
     pub start: usize,
     pub end: usize,
 }
 
-#[derive(Clone, Copy)]
+#[derive(Clone, Copy, Debug, PartialEq, Eq)]
 pub struct Job {
     pub window0: Window,
     pub window1: Window,

@@ -4,7 +4,7 @@ ghost use Rattle.job.specs.Section.{section_at, is_whole};
 
 use memory::peek::peek_word;
 
-#[derive(Clone, Copy)]
+#[derive(Clone, Copy, Debug, PartialEq, Eq)]
 pub struct Section {
     // Where its content starts.
     pub start: usize,

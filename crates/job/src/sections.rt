@@ -10,7 +10,7 @@ const WORD: usize = 4;
 
 const PAIR: usize = 8;
 
-#[derive(Clone, Copy)]
+#[derive(Clone, Copy, Debug, PartialEq, Eq)]
 pub struct Sections {
     pub windows: Section,
     pub ring0: Section,

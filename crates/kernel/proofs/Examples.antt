@@ -19,7 +19,7 @@ use Rattle.memory.proofs.Reach.{reach_outside}
 use Rattle.instruction.specs.declared.list.Op.TheVariants.{Alu, Unary, AluImm}
 use Rattle.instruction.specs.declared.list.AluOp.TheVariants.{Add}
 use Rattle.instruction.specs.declared.list.UnaryOp.TheVariants.{Abs, Clz}
-use Rattle.instruction.specs.Rows.{scalar_row, plain_row, count_row, immediate_row, store_row, branch_row}
+use Rattle.instruction.specs.Rows.{scalar_row, plain_row, count_row, immediate_row, listed, width_by, store_row, cond_by, branch_row}
 use Rattle.instruction.specs.Decode.{op_of, decoded}
 use Rattle.instruction.specs.Meaning.{alu_of, unary_of, holds_of}
 use Rattle.instruction.specs.Effect.{branch_effect, effect_of}
@@ -84,7 +84,7 @@ module _ (limit groups threads : ℕ) (window : List ℕ) where
   -- FE502E0D (SW at -4 from s0): 13 at place 0, with the first address that is not inside, and nothing is stored
   pub p8 : 1 ≤ limit → 1 ≤ groups → 1 ≤ threads → ListN.length window < 2 ^ 32
       → dispatch_of limit (pack_of 0xFE502E0D) 0 groups threads window ≡ stopped_first (OutsideTheWindow (first_outside (ListN.length window) 4294967292)) 0
-  unfolding started step_of executed decoded op_of store_row effect_of applied after_store scalar_of if_inside stops word_at bytes_of_words
+  unfolding started step_of executed decoded op_of listed width_by store_row effect_of applied after_store scalar_of if_inside stops word_at bytes_of_words
   p8 hl hg ht small =
       stopped 0xFE502E0D 0 (started 0 0 threads groups) (OutsideTheWindow (first_outside (ListN.length window) 4294967292)) hg ht (omega arith) (no_step _ _ _ _ _)
       (rw (lt-leb limit 0 hl, reach_outside (ListN.length window) 4294967292 4 (omega arith)))
@@ -94,7 +94,7 @@ module _ (limit groups threads : ℕ) (window : List ℕ) where
   spun n = record { registers = start_registers 0 0 threads groups; place = 0; steps = n }
 
   spin : (n : ℕ) → n < limit → step_of limit (pack_of 0x0000000E) the_kernel (spun n) window ≡ running (spun (suc n)) window
-  unfolding step_of executed decoded op_of branch_row effect_of branch_effect holds_of applied branched lands moved_to scalar_of word_at running bytes_of_words
+  unfolding step_of executed decoded op_of listed cond_by branch_row effect_of branch_effect holds_of applied branched lands moved_to scalar_of word_at running bytes_of_words
   spin n h = rw (lt-leb limit n h, add-one)
 
   spins : (n : ℕ) → n ≤ limit → steps_of n limit (pack_of 0x0000000E) the_kernel (spun 0) window ≡ running (spun n) window

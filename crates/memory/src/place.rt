@@ -2,6 +2,7 @@
 ghost use Rattle.std.specs.Prelude.{◌≡◌, ◌+◌, ◌≤◌, length};
 ghost use Rattle.memory.specs.Place.{half_at, word_at, with_byte, with_half, with_word};
 
+use crate::transfer::transfer;
 use words::bytes::{half, word, word_bytes};
 
 #[tactic(auto, unfolding(crate::specs::Place::half_at))]
@@ -9,9 +10,7 @@ pub fn half_at(window: &[u8], at: usize) -> u32
     requires { at + 2 ≤ length window.now }
     ensures { result ≡ half_at window.now at }
 {
-    let b0 = window[at];
-    let b1 = window[at + 1];
-    half(b0, b1)
+    half(window[at], window[at + 1])
 }
 
 #[tactic(auto, unfolding(crate::specs::Place::word_at))]
@@ -19,40 +18,29 @@ pub fn word_at(window: &[u8], at: usize) -> u32
     requires { at + 4 ≤ length window.now }
     ensures { result ≡ word_at window.now at }
 {
-    let b0 = window[at];
-    let b1 = window[at + 1];
-    let b2 = window[at + 2];
-    let b3 = window[at + 3];
-    word(b0, b1, b2, b3)
+    word(window[at], window[at + 1], window[at + 2], window[at + 3])
 }
 
-#[tactic(auto, unfolding(crate::specs::Place::with_byte))]
+#[tactic(auto, unfolding(crate::specs::Place::with_byte, crate::specs::Transfer::transferred, crate::specs::After::after))]
 pub fn put_byte(window: &mut [u8], at: usize, value: u32)
     requires { at + 1 ≤ length window.old }
     ensures { window.new ≡ with_byte window.old at value }
 {
-    let b = word_bytes(value);
-    window[at] = b[0];
+    transfer(&word_bytes(value), 0, window, at, 1);
 }
 
-#[tactic(auto, unfolding(crate::specs::Place::with_half))]
+#[tactic(auto, unfolding(crate::specs::Place::with_half, crate::specs::Transfer::transferred, crate::specs::After::after))]
 pub fn put_half(window: &mut [u8], at: usize, value: u32)
     requires { at + 2 ≤ length window.old }
     ensures { window.new ≡ with_half window.old at value }
 {
-    let b = word_bytes(value);
-    window[at] = b[0];
-    window[at + 1] = b[1];
+    transfer(&word_bytes(value), 0, window, at, 2);
 }
 
-#[tactic(auto, unfolding(crate::specs::Place::with_word))]
+#[tactic(auto, unfolding(crate::specs::Place::with_word, crate::specs::Transfer::transferred, crate::specs::After::after))]
 pub fn put_word(window: &mut [u8], at: usize, value: u32)
     requires { at + 4 ≤ length window.old }
     ensures { window.new ≡ with_word window.old at value }
 {
-    let bytes = word_bytes(value);
-    window[at] = bytes[0];
-    window[at + 1] = bytes[1];
-    window[at + 2] = bytes[2];
-    window[at + 3] = bytes[3];
+    transfer(&word_bytes(value), 0, window, at, 4);
 }

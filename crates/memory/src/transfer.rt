@@ -3,7 +3,7 @@ ghost use Rattle.std.specs.Prelude.{◌≡◌, ◌+◌, ◌*◌, ◌≤◌, leng
 ghost use Rattle.memory.specs.Transfer.{transferred};
 
 #[tactic(auto, using(crate::proofs::Transferred::copied_over))]
-fn transfer(source: &[u8], start: usize, target: &mut [u8], at: usize, n: usize)
+pub(crate) fn transfer(source: &[u8], start: usize, target: &mut [u8], at: usize, n: usize)
     requires { (start + n ≤ length source.now) × (at + n ≤ length target.old) }
     ensures { target.new ≡ transferred source.now start at n target.old }
 {

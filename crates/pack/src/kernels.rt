@@ -1,5 +1,6 @@
 // The kernel pack: count K, K pairs (first word, words), count N, N code words, nothing after.
-ghost use Rattle.std.specs.Prelude.{◌≡◌, ◌≤◌, ◌<◌, ◌^◌};
+ghost use Rattle.std.specs.Prelude.{◌≡◌, ◌+◌};
+ghost use Rattle.memory.specs.Place.{word_at};
 ghost use Rattle.pack.specs.Kernels.{kernel_count, first_word, kernel_words, code_count, lies_in_code, all_lie, sound_pack, kernel_of, code_word};
 
 use memory::peek::peek_word;
@@ -25,22 +26,30 @@ pub fn kernel_count(pack: &[u8]) -> u32
     peek_word(pack, 0)
 }
 
+// The word at a place of the bytes from `start` on, which may lie past the end.
+fn word_from(bytes: &[u8], start: usize, at: usize) -> u32
+    ensures { result ≡ word_at bytes.now (start + at) }
+{
+    match bytes.get(start..) {
+        Some(part) => peek_word(part, at),
+        None => 0,
+    }
+}
+
 // The first word of kernel k, by the pairs (first word, words) from `start` on.
 #[tactic(auto, unfolding(crate::specs::Kernels::first_word))]
 pub fn first_word(bytes: &[u8], start: usize, k: u32) -> u32
-    requires { start ≤ 2 ^ 40 }
     ensures { result ≡ first_word bytes.now start k }
 {
-    peek_word(bytes, start + 8 * k as usize)
+    word_from(bytes, start, 8 * k as usize)
 }
 
 // Its words.
 #[tactic(auto, unfolding(crate::specs::Kernels::kernel_words))]
 pub fn kernel_words(bytes: &[u8], start: usize, k: u32) -> u32
-    requires { start ≤ 2 ^ 40 }
     ensures { result ≡ kernel_words bytes.now start k }
 {
-    peek_word(bytes, start + 8 * k as usize + 4)
+    word_from(bytes, start, 8 * k as usize + 4)
 }
 
 #[tactic(auto, unfolding(crate::specs::Kernels::code_count))]
@@ -97,8 +106,5 @@ pub fn kernel_at(pack: &[u8], k: u32) -> Kernel
 pub fn code_word(pack: &[u8], kernel: Kernel, place: u32) -> u32
     ensures { result ≡ code_word pack.now kernel place }
 {
-    match pack.get(kernel.start..) {
-        Some(code) => peek_word(code, place as usize),
-        None => 0,
-    }
+    word_from(pack, kernel.start, place as usize)
 }

@@ -7,7 +7,7 @@ use crate::{fresh, turn};
 use memory::peek::peek_word;
 
 // What became of it, and whether all is as recorded. The status is that of a report: 0 served, 1 idle, else refused.
-#[derive(Clone, Copy)]
+#[derive(Clone, Copy, Debug, PartialEq, Eq)]
 pub enum Seen {
     Fresh(bool),
     Turn(u32, bool),

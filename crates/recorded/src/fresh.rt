@@ -10,7 +10,7 @@ use capi::image::IMAGE_BYTES;
 use state::edition::Start;
 
 // What a making names beside the windows: nothing, a limit, or a limit and edition 2's starting number.
-#[derive(Clone, Copy)]
+#[derive(Clone, Copy, Debug, PartialEq, Eq)]
 pub enum Named {
     Nothing,
     Limit,

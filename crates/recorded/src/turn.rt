@@ -8,6 +8,7 @@ use capi::calls::turn_call;
 use capi::image::IMAGE_BYTES;
 use capi::report::REPORT_BYTES;
 use memory::peek::peek_word;
+use state::rings::Rings;
 
 // The most bytes of a memory, of a ring or a pack, and of a pipe.
 const MEMORY_ROOM: usize = 1048640;
@@ -56,45 +57,28 @@ fn is_recorded(
 }
 
 // Makes the call on what is lent, and compares what it leaves.
-fn compare_answer<'a>(
+fn compare_answer(
     body: &[u8],
     image: &mut [u8],
     memory: &mut [u8],
-    ring0: &'a [u8],
-    ring1: &'a [u8],
-    ring2: &'a [u8],
-    ring3: &'a [u8],
+    rings: Rings<'_>,
     pack: &[u8],
     pipe: &mut [u8],
 ) -> Seen
-    requires { Laid body.now image.old memory.old ring0.now ring1.now ring2.now ring3.now pack.now pipe.old }
+    requires { Laid body.now image.old memory.old rings.ring0.now rings.ring1.now rings.ring2.now rings.ring3.now pack.now pipe.old }
     ensures { result ≡ made_seen body.now }
 {
     let mut report = [255u8; REPORT_BYTES];
-    let status = turn_call(
-        image,
-        memory,
-        ring0,
-        ring1,
-        ring2,
-        ring3,
-        pack,
-        pipe,
-        &mut report,
-    );
+    let status = turn_call(image, memory, rings, pack, pipe, &mut report);
     Seen::Turn(
         status,
         is_recorded(body, image, memory, pipe, &report, status),
     )
 }
 
-// Rooms of zeros. As results they have their length by type, and no proof counts it.
-fn empty_memory() -> [u8; MEMORY_ROOM] {
-    [0u8; MEMORY_ROOM]
-}
-
-fn empty_ring() -> [u8; RING_ROOM] {
-    [0u8; RING_ROOM]
+// A room of zeros. As a result it has its length by type, and no proof counts it.
+fn room<const N: usize>() -> [u8; N] {
+    [0u8; N]
 }
 
 // Lays the pieces into rooms of their own, and makes the call.
@@ -105,21 +89,23 @@ pub fn compare(body: &[u8]) -> Seen
     if !has_room(body) {
         return Seen::Damaged;
     }
-    let mut image_room = [0u8; IMAGE_BYTES];
-    let mut memory_room = empty_memory();
-    let mut room0 = empty_ring();
-    let mut room1 = empty_ring();
-    let mut room2 = empty_ring();
-    let mut room3 = empty_ring();
-    let mut pack_room = empty_ring();
-    let mut pipe_room = [0u8; PIPE_ROOM];
+    let mut image_room = room::<IMAGE_BYTES>();
+    let mut memory_room = room::<MEMORY_ROOM>();
+    let mut room0 = room::<RING_ROOM>();
+    let mut room1 = room::<RING_ROOM>();
+    let mut room2 = room::<RING_ROOM>();
+    let mut room3 = room::<RING_ROOM>();
+    let mut pack_room = room::<RING_ROOM>();
+    let mut pipe_room = room::<PIPE_ROOM>();
     let image = laid(&mut image_room, body, 0);
     let memory = laid(&mut memory_room, body, 1);
-    let ring0 = laid(&mut room0, body, 2);
-    let ring1 = laid(&mut room1, body, 3);
-    let ring2 = laid(&mut room2, body, 4);
-    let ring3 = laid(&mut room3, body, 5);
+    let rings = Rings {
+        ring0: laid(&mut room0, body, 2),
+        ring1: laid(&mut room1, body, 3),
+        ring2: laid(&mut room2, body, 4),
+        ring3: laid(&mut room3, body, 5),
+    };
     let pack = laid(&mut pack_room, body, 6);
     let pipe = laid(&mut pipe_room, body, 7);
-    compare_answer(body, image, memory, ring0, ring1, ring2, ring3, pack, pipe)
+    compare_answer(body, image, memory, rings, pack, pipe)
 }

@@ -1,5 +1,5 @@
 // A job played on a fresh device.
-ghost use Rattle.std.specs.Prelude.{◌≡◌, ◌≤◌, length, Ok};
+ghost use Rattle.std.specs.Prelude.{◌≡◌, ◌≤◌, Ok};
 ghost use Rattle.state.specs.Device.{Shaped};
 ghost use Rattle.device.specs.Turn.{ring_in, call_of};
 ghost use Rattle.device.specs.Untaken.{untaken_in};

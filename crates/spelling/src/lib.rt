@@ -1,4 +1,4 @@
-// Numbers and lines in decimal.
+// The lines of the replay job, with their numbers in decimal.
 #![tactic(auto)]
 
 pub mod line;

@@ -5,6 +5,11 @@ use Rattle.state.specs.declared.edition.Edition.TheVariants.{One, Two}
 use Rattle.state.specs.declared.edition.Start.{Start}
 use Rattle.state.specs.declared.edition.Start.TheVariants.{Edition1, Edition2}
 
+-- an edition is its number
+abbrev pub edition_number : Edition → ℕ
+edition_number One = 1
+edition_number Two = 2
+
 -- the edition that is chosen
 abbrev pub edition_of : Start → Edition
 edition_of Edition1 = One

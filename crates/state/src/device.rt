@@ -16,7 +16,7 @@ pub struct Window {
     pub length: u32,
 }
 
-#[derive(Clone, Copy)]
+#[derive(Clone, Copy, Debug, PartialEq, Eq)]
 pub struct Ring {
     pub window: Window,
     pub cursor: u32,

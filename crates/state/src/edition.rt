@@ -1,11 +1,22 @@
 // The protocol's edition, and what is chosen when a device is made.
 ghost use Rattle.std.specs.Prelude.{◌≡◌};
-ghost use Rattle.state.specs.Edition.{edition_of, first_of};
+ghost use Rattle.state.specs.Edition.{edition_number, edition_of, first_of};
 
 #[derive(Clone, Copy, Debug, PartialEq, Eq)]
 pub enum Edition {
     One,
     Two,
+}
+
+impl From<Edition> for u32 {
+    ghost from_gives = { λ edition n. n ≡ edition_number edition };
+
+    fn from(edition: Edition) -> u32 {
+        match edition {
+            Edition::One => 1,
+            Edition::Two => 2,
+        }
+    }
 }
 
 // Edition 2 comes with one starting number for all slots.

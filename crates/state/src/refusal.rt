@@ -124,7 +124,8 @@ fn windows_fit(d: Device, memory: usize) -> bool
     memory_fits(memory, windows)
 }
 
-fn refuse_unless(holds: bool, why: Refusal) -> Result<(), Refusal>
+// Refused for this reason unless the test holds.
+pub fn refuse_unless<E: Copy>(holds: bool, why: E) -> Result<(), E>
     ensures { result ≡ cond holds (Ok tt) (Err why) }
 {
     if holds { Ok(()) } else { Err(why) }

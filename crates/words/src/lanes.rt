@@ -2,8 +2,8 @@
 ghost use Rattle.std.specs.Prelude.{◌≡◌};
 ghost use Rattle.words.specs.Lanes.{lanes_of};
 
+use crate::at_once;
 use crate::products::products;
-use crate::{arithmetic, at_once, bitwise};
 
 #[derive(Clone, Copy, Debug, PartialEq, Eq)]
 pub enum LaneOp {

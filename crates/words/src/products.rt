@@ -3,7 +3,7 @@ ghost use Rattle.std.specs.Prelude.{◌≡◌, ◌/◌, ◌<◌, ◌≤◌};
 ghost use Rattle.words.specs.Arithmetic.{product};
 ghost use Rattle.words.specs.Lanes.{lane, lanewise};
 
-// The product of the lanes of `BITS` bits from bit `place` on.
+// The product of the lanes `i`, of `BITS` bits.
 fn product_at<const BITS: u32>(a: u32, b: u32, i: u32) -> u32
     requires { (0 < BITS) × (BITS ≤ 16) × (i < 32 / BITS) }
     ensures { result ≡ product BITS (lane BITS i a) (lane BITS i b) }

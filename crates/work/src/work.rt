@@ -20,7 +20,7 @@ use memory::copy;
 use memory::rectangle::fill;
 use memory::transfer::{read_words, write_words};
 
-#[derive(Clone, Copy)]
+#[derive(Clone, Copy, Debug, PartialEq, Eq)]
 pub struct Performed {
     pub outcome: Outcome,
     pub frame: Option<Frame>,
@@ -56,10 +56,7 @@ fn stop_outcome(why: Stop) -> Fault
 fn ran_outcome(ran: Result<(), ThreadStop>) -> Outcome
     ensures { result ≡ ran_outcome ran }
 {
-    match ran {
-        Ok(()) => Ok(()),
-        Err(stop) => Err(stop_outcome(stop.why)),
-    }
+    ran.map_err(|stop| stop_outcome(stop.why))
 }
 
 fn fill_rect(command: Command, window: &mut [u8], frame: Option<Frame>)

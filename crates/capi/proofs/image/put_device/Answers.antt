@@ -22,5 +22,5 @@ returns c =
     let next : marker_at ≡ 0 + length (rings_words d ++ d.slots) = simp length-append (omega arith) in
     let size : length (rings_words d ++ d.slots ++ last_words d) ≡ image_words = simp length-append (omega arith) in
     let slots-put = words_then m 0 (rings_words d) slots_at d.slots (omega arith) c.put_rings.ensures c.put_words.ensures in
-    words-whole m (words_of d) (omega (arith, size, c.requires))
+    words-whole m (words_of d) (omega (arith, size))
     (words_then m 0 (rings_words d ++ d.slots) marker_at (last_words d) next slots-put c.put_last.ensures)

@@ -3,7 +3,8 @@ use mathlib.Core.List.{[], ◌∷◌, ◌++◌}
 use native.Mathlib.Omega.{arith}
 use Prim.Native.Nat.{◌+◌}
 use lib.ListN.{length, length-append}
-use Rattle.capi.specs.Image.{counts_words, edition_number, edition_at, commands_at, marker_at}
+use Rattle.state.specs.Edition.{edition_number}
+use Rattle.capi.specs.Image.{counts_words, edition_at, commands_at, marker_at}
 use Rattle.capi.proofs.WordBytes.{words_then}
 use Rattle.capi.proofs.Sizes.{counts-length}
 use borrow.Author.Rules.{rules}
@@ -20,4 +21,4 @@ returns c =
     simp length-append (omega (arith, counts-length d commands outcomes)) in
     let counts-put = words_then m marker_at numbers commands_at (counts_words d.counts) (omega arith) c.put_words.ensures c.put_counts.ensures in
     words_then m marker_at (numbers ++ counts_words d.counts) edition_at (edition_number d.edition ∷ []) next counts-put
-    (rw c.edition_number.ensures at c.put_words-2.ensures)
+    (rw c.into.ensures at c.put_words-2.ensures)

@@ -2,7 +2,7 @@ use Rattle.device.proofs.Windows.{lent-window, lent_back}
 use Rattle.command.proofs.Sizes.{payload-inside}
 use Rattle.command.proofs.Sizes.{whole-inside}
 use native.Mathlib.Omega.{arith}
-use Rattle.device.specs.Turn.{served_of}
+use Rattle.device.specs.Turn.{finished, served_of}
 use Rattle.device.proofs.turn.serve.Goals as goal
 
 pub perform-done-requires : goal.perform-done-requires
@@ -13,8 +13,8 @@ perform-done-requires c =
       room = s.requires.room;
     }
 
-pub finish-requires : goal.finish-requires
-finish-requires c =
+pub device_after-requires : goal.device_after-requires
+device_after-requires c =
     let s = c in (
       s.requires.number,
       rw (c.command_at-command.ensures, c.ring-at.ensures)
@@ -22,7 +22,7 @@ finish-requires c =
     )
 
 pub returns : goal.returns
-unfolding served_of
+unfolding finished served_of
 returns c =
     let s = c in
     let start = c.ring-at.result.window.start in
@@ -31,7 +31,7 @@ returns c =
     let p = c.perform-done in
     rw (← c.ring-at.ensures, ← c.command_at-command.ensures, ← c.slot.ensures, ← c.is_full-full.ensures, ← lent-window start n m)
     (record {
-      answer = rw (c.finish.ensures, p.ensures.answer);
+      answer = rw (c.device_after.ensures, c.report_of.ensures, p.ensures.answer);
       memory = rw (← p.ensures.window) (lent_back start n m (rw c.ring-at.ensures s.requires.fits) p.new.window p.auto.window);
       pipe = p.ensures.pipe;
     })
