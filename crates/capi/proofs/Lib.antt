@@ -8,3 +8,4 @@ pub mod Fits
 pub mod Forms
 pub mod Imaged
 pub mod Gathered
+pub mod WrongReport

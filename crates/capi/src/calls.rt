@@ -73,7 +73,7 @@ fn put_if_served(image: &mut [u8; IMAGE_BYTES], d: Device, answer: Answer)
     }
 }
 
-#[tactic(auto, unfolding(crate::specs::Calls::turn_call, crate::specs::Calls::untouched, crate::specs::Calls::called_of))]
+#[tactic(auto, using(crate::proofs::WrongReport::leaves_202), unfolding(crate::specs::Calls::turn_call, crate::specs::Calls::untouched, crate::specs::Calls::called_of))]
 pub fn turn_call(
     image: &mut [u8],
     mem: &mut [u8],

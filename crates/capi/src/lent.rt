@@ -36,6 +36,17 @@ pub fn put_words(bytes: &mut [u8], k: usize, words: &[u32])
     }
 }
 
+// The lent words become the bytes' words from word k on, as many as they are.
+#[tactic(auto, unfolding(crate::specs::Image::words_in))]
+pub fn take_words(words: &mut [u32], bytes: &[u8], k: usize)
+    requires { 4 * k + 4 * length words.old ≤ length bytes.now }
+    ensures { words.new ≡ words_in bytes.now k (length words.old) }
+{
+    for i in 0..words.len() {
+        words[i] = word_in(bytes, k + i);
+    }
+}
+
 // The N words from word k on.
 pub fn words_in<const N: usize>(bytes: &[u8], k: usize) -> [u32; N]
     requires { 4 * k + 4 * N ≤ length bytes.now }

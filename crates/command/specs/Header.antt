@@ -24,6 +24,7 @@ command_at ring cursor =
     let flags : Flags = record { 0 = get_or ring (cursor + 1) 0 } in
     let len = get_or ring (cursor + 3) 0 in
     record {
+      byte = get_or ring cursor 0;
       opcode = opcode_of (get_or ring cursor 0);
       flags = flags;
       rdst = get_or ring (cursor + 2) 0;

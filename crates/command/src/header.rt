@@ -10,7 +10,9 @@ use memory::peek::{peek_byte, peek_word};
 
 #[derive(Clone, Copy, Debug, PartialEq, Eq)]
 pub struct Command {
-    // None if it is not in the table.
+    // The byte that names the opcode.
+    pub byte: u8,
+    // None if that byte is not in the table.
     pub opcode: Option<Opcode>,
     pub flags: Flags,
     pub rdst: u8,
@@ -71,12 +73,13 @@ pub fn command_at(ring: &[u8], cursor: usize) -> Command
     requires { cursor ≤ 65536 }
     ensures { result ≡ command_at ring.now cursor }
 {
-    let opcode = Opcode::try_from(peek_byte(ring, cursor)).ok();
+    let named = peek_byte(ring, cursor);
     let flags = Flags(peek_byte(ring, cursor + 1));
     let len = peek_byte(ring, cursor + 3);
     let head = 16 + wait_size(flags);
     Command {
-        opcode,
+        byte: named,
+        opcode: Opcode::try_from(named).ok(),
         flags,
         rdst: peek_byte(ring, cursor + 2),
         len,

@@ -1,7 +1,7 @@
 // The opcodes.
 ghost use Rattle.std.specs.Prelude.{◌≡◌, ok_or};
 ghost use Rattle.command.specs.declared.outcome.Fault.TheVariants.{UnknownOpcode};
-ghost use Rattle.command.specs.Opcode.{opcode_of};
+ghost use Rattle.command.specs.Opcode.{opcode_number, opcode_of};
 
 use crate::outcome::Fault;
 
@@ -15,6 +15,23 @@ pub enum Opcode {
     Barrier,
     CopyBuffer,
     SetFb,
+}
+
+impl From<Opcode> for u8 {
+    ghost from_gives = { λ opcode n. n ≡ opcode_number opcode };
+
+    fn from(opcode: Opcode) -> u8 {
+        match opcode {
+            Opcode::WriteMem => 0x01,
+            Opcode::ReadMem => 0x02,
+            Opcode::FillRect => 0x10,
+            Opcode::Blit => 0x11,
+            Opcode::Dispatch1d => 0x20,
+            Opcode::Barrier => 0x22,
+            Opcode::CopyBuffer => 0x23,
+            Opcode::SetFb => 0x30,
+        }
+    }
 }
 
 impl TryFrom<u8> for Opcode {

@@ -13,15 +13,21 @@ pub struct Fresh {
     pub answer: Result<(), Refusal>,
 }
 
+// 0 made, or the refusal's number.
+pub fn making_number(answer: Result<(), Refusal>) -> u32
+    ensures { result ≡ making_number answer }
+{
+    match answer {
+        Ok(()) => 0,
+        Err(why) => why.into(),
+    }
+}
+
 impl Fresh {
-    // 0 made, or the refusal's number.
     pub fn number(self) -> u32
         ensures { result ≡ making_number self.answer }
     {
-        match self.answer {
-            Ok(()) => 0,
-            Err(why) => why.into(),
-        }
+        making_number(self.answer)
     }
 }
 

@@ -127,7 +127,17 @@ fn serve(d: Device, q: u32, mem: &mut [u8], ring: &[u8], pack: &[u8], pipe: &mut
 pub fn turn(d: Device, mem: &mut [u8], rings: Rings<'_>, pack: &[u8], pipe: &mut [u8]) -> Turned
     ensures { Shows result mem.new pipe.new (turn_of d (call_of mem.old rings.entry.ring0.now rings.entry.ring1.now rings.entry.ring2.now rings.entry.ring3.now pack.now pipe.old)) }
 {
-    if let Err(why) = judge(d, mem.len(), rings, pipe.len(), pack) {
+    let verdict = judge(
+        d,
+        mem.len(),
+        rings.ring0.len(),
+        rings.ring1.len(),
+        rings.ring2.len(),
+        rings.ring3.len(),
+        pipe.len(),
+        pack,
+    );
+    if let Err(why) = verdict {
         return Turned {
             device: d,
             answer: Answer::Refused(why),

@@ -4,11 +4,22 @@ use mathlib.Core.Path.{◌≡◌, sym}
 use mathlib.Core.List.{List, append_assoc}
 use Prim.Native.Nat.{ℕ, zero, suc, ◌+◌, ◌-◌, ◌≤◌}
 use native.Mathlib.Omega.{arith}
-use lib.ListN.{length, take, drop, length-drop}
+use lib.ListN.{length, get_or, set, take, drop, length-drop}
 use lib.Seq.{paste, paste-zero, paste-suc, get_or-drop, drop-drop}
 use borrow.Rule.Slice.PartMut.{put_mid}
 use Rattle.memory.specs.After.{after}
 use Rattle.memory.specs.Transfer.{transferred}
+use Rattle.memory.proofs.After.{after_none, after_more}
+
+-- byte by byte
+pub transferred-none : (source : List ℕ) (start at : ℕ) (m : List ℕ) → transferred source start at 0 m ≡ m
+unfolding transferred
+transferred-none source start at m = after_none _ m
+
+pub transferred-more : (source : List ℕ) (start at n : ℕ) (m : List ℕ)
+    → transferred source start at (n + 1) m ≡ set (transferred source start at n m) (at + n) (get_or source (start + n) 0)
+unfolding transferred
+transferred-more source start at n m = after_more _ n m
 
 -- a transfer of bytes that lie inside both lists is one copy
 transferred-pasted : (source : List ℕ) (start at n : ℕ) (m : List ℕ) → start + n ≤ length source → at + n ≤ length m

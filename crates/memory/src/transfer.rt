@@ -2,12 +2,14 @@
 ghost use Rattle.std.specs.Prelude.{◌≡◌, ◌+◌, ◌*◌, ◌≤◌, length};
 ghost use Rattle.memory.specs.Transfer.{transferred};
 
-#[tactic(auto, using(crate::proofs::Transferred::copied_over))]
+// Byte by byte: `copy_from_slice` of a length that is not constant would have an archive for C ask for `memmove`.
 pub(crate) fn transfer(source: &[u8], start: usize, target: &mut [u8], at: usize, n: usize)
     requires { (start + n ≤ length source.now) × (at + n ≤ length target.old) }
     ensures { target.new ≡ transferred source.now start at n target.old }
 {
-    target[at..at + n].copy_from_slice(&source[start..start + n]);
+    for i in 0..n {
+        target[at + i] = source[start + i];
+    }
 }
 
 // `words` words of the source, from `start` on, to `address`.

@@ -81,7 +81,9 @@ fn room<const N: usize>() -> [u8; N] {
     [0u8; N]
 }
 
-// Lays the pieces into rooms of their own, and makes the call.
+// Lays the pieces into rooms of their own, and makes the call. The rooms take 1.4 MiB of stack: not in a caller's frame, which
+// may have no such record.
+#[inline(never)]
 #[tactic(auto, using(crate::proofs::Turns::has_room_lem), unfolding(crate::specs::Turn::turn_seen))]
 pub fn compare(body: &[u8]) -> Seen
     ensures { result ≡ turn_seen body.now }

@@ -5,6 +5,7 @@ use mathlib.Core.List.{List, ◌++◌}
 use Prim.Native.Nat.{ℕ, ◌+◌, ◌*◌, ◌≤◌}
 use native.Mathlib.Omega.{arith}
 use lib.ListN.{length, take, drop}
+use Rattle.spelling.specs.Put.{Spelled}
 use Rattle.spelling.specs.Line.{idle_line, refused_line}
 use Rattle.state.specs.declared.device.Device.{Device}
 use Rattle.state.specs.declared.refusal.Refusal.{Refusal}
@@ -18,7 +19,7 @@ use Rattle.device.specs.Turn.{Call, ring_in, call_of, Shows, turn_of}
 use Rattle.device.specs.Untaken.{untaken_in}
 use Rattle.device.proofs.Untaken.{served_takes}
 use Rattle.device.proofs.Shapes.{turn-shaped}
-use Rattle.replay.specs.Text.{Appended, Spelled}
+use Rattle.replay.specs.Text.{Appended}
 use Rattle.replay.specs.Transcript.{served_line, all_lines}
 use Rattle.replay.proofs.Lines.{served-next, idle-ends, refused-ends}
 use Rattle.replay.proofs.TextLaws.{whole-spelled, last_appended, next-rest, next_appended}

@@ -4,12 +4,13 @@ use mathlib.Core.Path.{◌≡◌, sym, ◌∙◌, ap}
 use mathlib.Core.List.{List, ◌++◌, append_assoc}
 use Prim.Native.Nat.{ℕ, ◌+◌, ◌≤◌}
 use native.Mathlib.Omega.{arith}
-use lib.ListN.{length, take, drop, take-append-drop}
-use lib.Seq.{drop-drop, length-take-le}
+use lib.ListN.{length, take, drop, length-take, take-append-drop}
+use lib.Seq.{take_at, drop-drop, length-take-le}
 use Rattle.std.proofs.lemmas.Slice.{take-put_mid, drop-put_mid}
 use borrow.Rule.Slice.PartMut.{put_mid}
 use Rattle.std.proofs.lemmas.List.Edits.{sets-eq}
-use Rattle.replay.specs.Text.{Put, Appended, Spelled}
+use Rattle.spelling.specs.Put.{Put, Spelled}
+use Rattle.replay.specs.Text.{Appended}
 
 -- bytes put after the first n, over as many
 pub put-appended : (bytes before put : List ℕ) (n k r : ℕ) → put ≡ bytes → k ≡ length bytes → r ≡ n + length bytes → r ≤ length before
@@ -34,6 +35,18 @@ appended-put bytes n before after r room a = record { stored = whole bytes n bef
 -- what agrees from a place on agrees from a later one on
 later : (n more : ℕ) (a b : List ℕ) → drop n a ≡ drop n b → drop (n + more) a ≡ drop (n + more) b
 later n more a b e = sym (drop-drop more n a) ∙ ap (drop more) e ∙ drop-drop more n b
+
+-- a spelled line is the front that its length gives
+pub spelled-front : {line before after : List ℕ} {k : ℕ} → Spelled line before after k → take k after ≡ line
+spelled-front {line} s = rw s.bytes (take_at line _ _ (sym s.counted))
+
+-- a front has no more than the whole
+pub front-short : (k : ℕ) (all : List ℕ) → length (take k all) ≤ length all
+front-short k all = simp length-take (omega arith)
+
+-- so to append that front is to append the line
+pub line_appended : {line before spelled text lent : List ℕ} {k n r : ℕ} → Spelled line before spelled k → Appended (take k spelled) n text lent r → Appended line n text lent r
+line_appended s a = rw (spelled-front s) at a
 
 -- a front, with the bytes past it as before, is a text spelled there
 pub whole-spelled : {whole before after : List ℕ} {r : ℕ} → take r after ≡ whole → drop r after ≡ drop r before → r ≤ length after → Spelled whole before after r

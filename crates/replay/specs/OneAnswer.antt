@@ -1,6 +1,7 @@
 -- No second answer: any two answers, with the text they leave, that meet a contract are equal.
 use Rattle.std.specs.Prelude.{ℕ, ◌≡◌, List}
-use Rattle.replay.specs.Text.{Put, Appended, Spelled}
+use Rattle.spelling.specs.Put.{Put, Spelled}
+use Rattle.replay.specs.Text.{Appended}
 
 pub record OneAnswer : Type 0 where
   -- of bytes put over others

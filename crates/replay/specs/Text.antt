@@ -1,23 +1,11 @@
 -- Text at the front of bytes.
-use Rattle.std.specs.Prelude.{ℕ, ◌+◌, ◌≤◌, ◌≡◌, List, ◌++◌, length, take, drop, replicate}
-use Rattle.std.proofs.lemmas.List.Edits.{sets}
-
--- stored one by one from a place on; the answer is the place after them
-pub record Put (before : List ℕ) (at : ℕ) (bytes after : List ℕ) (answer : ℕ) : Type 0 where
-  pub stored : after ≡ sets before at bytes
-  pub place : answer ≡ at + length bytes
+use Rattle.std.specs.Prelude.{ℕ, ◌+◌, ◌≡◌, List, ◌++◌, length, take, drop, replicate}
 
 -- bytes put after the first n, with all others as before; the answer is how many there are now
 pub record Appended (bytes : List ℕ) (n : ℕ) (before after : List ℕ) (answer : ℕ) : Type 0 where
   pub front : take answer after ≡ take n before ++ bytes
   pub rest : drop answer after ≡ drop answer before
   pub counted : answer ≡ n + length bytes
-
--- a line stands at the front, the bytes past it are as before, and the answer is its length, for which there was room
-pub record Spelled (line before after : List ℕ) (answer : ℕ) : Type 0 where
-  pub bytes : after ≡ line ++ drop (length line) before
-  pub counted : answer ≡ length line
-  pub room : answer ≤ length after
 
 -- a text before anything is written: 262,144 zeros
 unfoldable pub empty_text : List ℕ

@@ -4,7 +4,7 @@ ghost use Rattle.state.specs.Device.{Shaped};
 ghost use Rattle.device.specs.Turn.{ring_in, call_of};
 ghost use Rattle.device.specs.Untaken.{untaken_in};
 ghost use Rattle.job.specs.Parse.{parts_of};
-ghost use Rattle.replay.specs.Text.{Spelled};
+ghost use Rattle.spelling.specs.Put.{Spelled};
 ghost use Rattle.replay.specs.Transcript.{all_lines, empty_pipe, first_call, job_text, transcript_of};
 
 use crate::room::large_buffer;

@@ -1,7 +1,7 @@
 // The text that a job prints.
 ghost use Rattle.std.specs.Prelude.{◌≡◌, ◌+◌, ◌≤◌, length, take};
 ghost use Rattle.spelling.specs.Line.{idle_line, refused_line};
-ghost use Rattle.replay.specs.Text.{Put, Appended, empty_text};
+ghost use Rattle.replay.specs.Text.{Appended, empty_text};
 ghost use Rattle.replay.specs.Transcript.{served_line};
 
 use command::outcome::number;
@@ -10,6 +10,49 @@ use spelling::line::Line;
 
 // Room for 4,096 lines. No job has more than 3,841: its rings have at most 61,440 bytes, and a command at least 16.
 pub const TEXT_BYTES: usize = 262144;
+
+// Puts the bytes after the first `n`, and answers how many are written then.
+pub fn append(text: &mut [u8], n: usize, bytes: &[u8]) -> usize
+    requires { n + length bytes.now ≤ length text.old }
+    ensures { Appended bytes.now n text.old text.new result }
+{
+    let end = n + bytes.len();
+    text[n..end].copy_from_slice(bytes);
+    end
+}
+
+// The line of a served turn. No line has more than 64 bytes.
+#[tactic(auto, unfolding(device::specs::Answer::values_of))]
+pub fn append_turn(text: &mut [u8], n: usize, turn: u32, report: Report) -> usize
+    requires { n + 64 ≤ length text.old }
+    ensures appended { Appended (served_line turn report) n text.old text.new result }
+    ensures upper_bound { result ≤ n + 64 }
+{
+    let line = Line::of_turn(
+        turn,
+        report.ring,
+        number(report.outcome),
+        report.fence.unwrap_or(0),
+        report.words,
+    );
+    append(text, n, line.as_bytes())
+}
+
+pub fn append_idle(text: &mut [u8], n: usize, turns: u32) -> usize
+    requires { n + 64 ≤ length text.old }
+    ensures appended { Appended (idle_line turns) n text.old text.new result }
+    ensures upper_bound { result ≤ n + 64 }
+{
+    append(text, n, Line::of_idle(turns).as_bytes())
+}
+
+pub fn append_refused(text: &mut [u8], n: usize, number: u32) -> usize
+    requires { n + 64 ≤ length text.old }
+    ensures appended { Appended (refused_line number) n text.old text.new result }
+    ensures upper_bound { result ≤ n + 64 }
+{
+    append(text, n, Line::of_refused(number).as_bytes())
+}
 
 // Text that grows: the first `size` bytes are written.
 #[derive(Drop)]
@@ -52,21 +95,12 @@ impl Text {
         self.size = 0;
     }
 
-    // The line of a served turn. No line has more than 64 bytes.
-    #[tactic(auto, unfolding(device::specs::Answer::values_of))]
     pub fn append_turn(&mut self, turn: u32, report: Report)
         requires { self.old.size + 64 ≤ 262144 }
         ensures appended { Appended (served_line turn report) self.old.size self.old.bytes self.new.bytes self.new.size }
         ensures upper_bound { self.new.size ≤ self.old.size + 64 }
     {
-        let line = Line::of_turn(
-            turn,
-            report.ring,
-            number(report.outcome),
-            report.fence.unwrap_or(0),
-            report.words,
-        );
-        self.append(line.as_bytes());
+        self.size = append_turn(&mut self.bytes, self.size, turn, report);
     }
 
     pub fn append_idle(&mut self, turns: u32)
@@ -74,7 +108,7 @@ impl Text {
         ensures appended { Appended (idle_line turns) self.old.size self.old.bytes self.new.bytes self.new.size }
         ensures upper_bound { self.new.size ≤ self.old.size + 64 }
     {
-        self.append(Line::of_idle(turns).as_bytes());
+        self.size = append_idle(&mut self.bytes, self.size, turns);
     }
 
     pub fn append_refused(&mut self, number: u32)
@@ -82,16 +116,6 @@ impl Text {
         ensures appended { Appended (refused_line number) self.old.size self.old.bytes self.new.bytes self.new.size }
         ensures upper_bound { self.new.size ≤ self.old.size + 64 }
     {
-        self.append(Line::of_refused(number).as_bytes());
-    }
-
-    fn append(&mut self, bytes: &[u8])
-        requires { self.old.size + length bytes.now ≤ 262144 }
-        ensures stored { Put self.old.bytes self.old.size bytes.now self.new.bytes self.new.size }
-        ensures appended { Appended bytes.now self.old.size self.old.bytes self.new.bytes self.new.size }
-    {
-        let end = self.size + bytes.len();
-        self.bytes[self.size..end].copy_from_slice(bytes);
-        self.size = end;
+        self.size = append_refused(&mut self.bytes, self.size, number);
     }
 }

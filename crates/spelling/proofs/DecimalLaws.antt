@@ -7,9 +7,11 @@ use Prim.Native.Nat.{ℕ, zero, suc, ◌+◌, ◌-◌, ◌*◌, ◌/◌, ◌%◌
 use native.Mathlib.Nat.{pow-suc}
 use native.Mathlib.Omega.{arith}
 use lib.Dec.{ltb}
-use lib.ListN.{length, get_or, length-append, get_or-append}
+use lib.ListN.{length, get_or, set, length-append, get_or-append}
+use lib.Seq.{sets}
 use borrow.Author.Tests.{lt-ltb, le-ltb, ltb-true, ltb-false}
 use Rattle.spelling.specs.Decimal.{digit, digits, decimal}
+use Rattle.spelling.proofs.Stores.{sets_append}
 
 one-digit : (most n : ℕ) → n < 10 → digits (suc most) n ≡ digit n ∷ []
 unfolding digits
@@ -61,6 +63,11 @@ decimal_more n h = rw (more-digits n n h, same_digits n (n / 10) (omega arith), 
 -- one more digit than its tenth
 pub length_more : (n : ℕ) → 10 ≤ n → length (decimal n) ≡ length (decimal (n / 10)) + 1
 length_more n h = rw (decimal_more n h, length-append)
+
+-- and one more store, to put it
+pub put-more : (m : List ℕ) (at n : ℕ) → 10 ≤ n
+    → sets m at (decimal n) ≡ set (sets m at (decimal (n / 10))) (at + length (decimal (n / 10))) (digit (n % 10))
+put-more m at n h = rw (decimal_more n h) (sets_append m at (decimal (n / 10)) (digit (n % 10) ∷ []))
 
 -- a row of digits read back, after a number that stands for those before it
 unfoldable pub read_on : ℕ → List ℕ → ℕ

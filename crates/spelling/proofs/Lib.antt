@@ -1,1 +1,3 @@
+pub mod Stores
 pub mod DecimalLaws
+pub mod OneAnswer

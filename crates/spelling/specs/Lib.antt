@@ -1,2 +1,4 @@
+pub mod Put
 pub mod Decimal
 pub mod Line
+pub mod OneAnswer

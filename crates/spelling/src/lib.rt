@@ -1,4 +1,5 @@
-// The lines of the replay job, with their numbers in decimal.
+// Numbers in decimal, put into lent bytes, and the lines of the replay job.
 #![tactic(auto)]
 
+pub mod decimal;
 pub mod line;

@@ -3,6 +3,7 @@ ghost use Rattle.std.specs.Prelude.{◌≡◌, ℕ, List, [], ◌∷◌, ◌++�
 ghost use Rattle.spelling.specs.Decimal.{decimal};
 ghost use Rattle.spelling.specs.Line.{turn_line, idle_line, refused_line};
 
+use crate::decimal::put_field;
 use std::marker::Model;
 
 // No line is longer: five words of at most ten digits, each with the byte after it.
@@ -91,27 +92,12 @@ impl Line {
         }
     }
 
-    // A number in decimal.
-    #[tactic(auto, using(crate::proofs::DecimalLaws::decimal_small, crate::proofs::DecimalLaws::length_more))]
-    fn push_number(&mut self, n: u32)
-        requires { length self.old + length (decimal n) ≤ 64 }
-        ensures { self.new ≡ self.old ++ decimal n }
-    {
-        if n < 10 {
-            return self.push(b'0' + n as u8);
-        }
-        self.push_number(n / 10);
-        self.push(b'0' + (n % 10) as u8);
-    }
-
     // A number and the byte after it.
-    #[tactic(auto, using(crate::proofs::DecimalLaws::digits_of_word))]
     fn push_field(&mut self, n: u32, last: u8)
         requires { length self.old + 11 ≤ 64 }
         ensures pushed { self.new ≡ self.old ++ (decimal n ++ (last ∷ [])) }
         ensures upper_bound { length self.new ≤ length self.old + 11 }
     {
-        self.push_number(n);
-        self.push(last);
+        self.length = put_field(&mut self.bytes, self.length, n, last);
     }
 }

@@ -1,9 +1,8 @@
 // Whole calls that are refused, in their order.
-ghost use Rattle.std.specs.Prelude.{◌≡◌, cond, length, Ok, Err};
+ghost use Rattle.std.specs.Prelude.{◌≡◌, cond, Ok, Err};
 ghost use Rattle.state.specs.Refusal.{refusal_number, window_fits, memory_fits, ring_sound, limit_fits, state_sound, ring_fits, rings_fit, windows_fit, verdict_of};
 
 use crate::device::{Device, Ring, Window};
-use crate::rings::Rings;
 use command::frame::held_fault;
 use pack::kernels::is_sound;
 
@@ -102,13 +101,13 @@ fn ring_fits(ring: Ring, length: usize) -> bool
 }
 
 #[tactic(auto, unfolding(crate::specs::Refusal::rings_fit))]
-fn rings_fit(d: Device, rings: Rings<'_>) -> bool
-    ensures { result ≡ rings_fit d (length rings.entry.ring0.now) (length rings.entry.ring1.now) (length rings.entry.ring2.now) (length rings.entry.ring3.now) }
+fn rings_fit(d: Device, l0: usize, l1: usize, l2: usize, l3: usize) -> bool
+    ensures { result ≡ rings_fit d l0 l1 l2 l3 }
 {
-    ring_fits(d.ring(0), rings.ring0.len())
-        & ring_fits(d.ring(1), rings.ring1.len())
-        & ring_fits(d.ring(2), rings.ring2.len())
-        & ring_fits(d.ring(3), rings.ring3.len())
+    ring_fits(d.ring(0), l0)
+        & ring_fits(d.ring(1), l1)
+        & ring_fits(d.ring(2), l2)
+        & ring_fits(d.ring(3), l3)
 }
 
 #[tactic(auto, unfolding(crate::specs::Refusal::windows_fit))]
@@ -131,20 +130,23 @@ pub fn refuse_unless<E: Copy>(holds: bool, why: E) -> Result<(), E>
     if holds { Ok(()) } else { Err(why) }
 }
 
-// The numbers are the lengths of the memory and the pipe.
+// The numbers are the lengths of the memory, the four rings and the pipe: lengths alone can be judged.
 #[tactic(auto, unfolding(crate::specs::Refusal::verdict_of))]
 pub fn judge(
     d: Device,
     memory: usize,
-    rings: Rings<'_>,
+    l0: usize,
+    l1: usize,
+    l2: usize,
+    l3: usize,
     pipe: usize,
     pack: &[u8],
 ) -> Result<(), Refusal>
-    ensures { result ≡ verdict_of d memory (length rings.entry.ring0.now) (length rings.entry.ring1.now) (length rings.entry.ring2.now) (length rings.entry.ring3.now) pipe pack.now }
+    ensures { result ≡ verdict_of d memory l0 l1 l2 l3 pipe pack.now }
 {
     refuse_unless(windows_fit(d, memory), Refusal::Memory)?;
     refuse_unless(state_sound(d), Refusal::State)?;
-    refuse_unless(rings_fit(d, rings), Refusal::Rings)?;
+    refuse_unless(rings_fit(d, l0, l1, l2, l3), Refusal::Rings)?;
     refuse_unless(LEAST_PIPE <= pipe, Refusal::Pipe)?;
     refuse_unless(is_sound(pack), Refusal::Pack)
 }

@@ -7,6 +7,10 @@ use Rattle.words.specs.Lanes.{lane, lanewise}
 use Rattle.words.proofs.LaneLaws.{lane_below, lanewise_below}
 use Rattle.words.proofs.WordLaws.{product_below}
 
+-- the product of two numbers of k bits has at most k + k
+pub product-fits : (k : ℕ) {a b : ℕ} → a < 2 ^ k → b < 2 ^ k → a * b < 2 ^ (k + k)
+product-fits k {a} {b} ha hb = rw (pow-add 2 k k) (mul-lt _ _ _ _ ha hb)
+
 module _ (k i a b : ℕ) where
   -- lane i put in above the lower ones
   pub more_lanes : lanewise (product k) k i a b + product k (lane k i a) (lane k i b) * 2 ^ (k * i) ≡ lanewise (product k) k (i + 1) a b
@@ -29,4 +33,4 @@ module _ (k i a b : ℕ) where
   -- the product of two lanes of at most 16 bits is a word
   pub lane_product_fits : k ≤ 16 → lane k i a * lane k i b < 2 ^ 32
   lane_product_fits h =
-      lt_of_lt_of_le (mul-lt _ _ _ _ (lane_below k i a) (lane_below k i b)) (rw (← pow-add 2 k k) (pow_mono {j = 32} (omega arith)))
+      lt_of_lt_of_le (product-fits k (lane_below k i a) (lane_below k i b)) (pow_mono {j = 32} (omega arith))

@@ -2,6 +2,8 @@
 -- Assumes nothing.
 use Rattle.std.proofs.Common.{◌≡◌, ℕ, ◌+◌, ◌-◌, ◌*◌, ◌%◌, ◌^◌, ◌<◌, refl, ap, ◌∙◌, subst, ap₂, mod-eq_of_lt, div-one, arith}
 use lib.Bits.{bit_xor, bit_and, bit_or, xor_lt, and_lt, or_lt}
+use Rattle.words.specs.Bytes.{word_of, byte_of}
+use Rattle.words.specs.Halves.{word_of_halves, word_half}
 use Rattle.words.specs.Lanes.{lanewise, lane_bits, lane_count, lane_of, lanes_of}
 use Rattle.words.specs.declared.lanes.LaneOp.{LaneOp}
 use Rattle.words.specs.declared.lanes.LaneOp.TheVariants.{Add, Sub, Xor, And, Or, Mul}
@@ -97,6 +99,18 @@ module _ (ty : LaneType) (a b : ℕ) (ha : a < 2 ^ 32) (hb : b < 2 ^ 32) where
 pub lanes_of_i32 : (op : LaneOp) (a b : ℕ) → a < 2 ^ 32 → b < 2 ^ 32 → lanes_of op I32 a b ≡ lane_of op I32 a b
 unfolding lanes_of lanewise
 lanes_of_i32 op a b ha hb = simp (div-one, mod-eq_of_lt ha, mod-eq_of_lt hb) (omega arith)
+
+-- a word of two lanes is one of halves, and one of four is one of bytes
+module _ (op : LaneOp) (a b : ℕ) where
+  pub lanes_of_i16 : lanes_of op I16 a b ≡ word_of_halves (lane_of op I16 (word_half 0 a) (word_half 0 b)) (lane_of op I16 (word_half 1 a) (word_half 1 b))
+  unfolding lanes_of lanewise
+  lanes_of_i16 = omega arith
+
+  pub lanes_of_i8 : lanes_of op I8 a b
+      ≡ word_of (lane_of op I8 (byte_of 0 a) (byte_of 0 b)) (lane_of op I8 (byte_of 1 a) (byte_of 1 b))
+      (lane_of op I8 (byte_of 2 a) (byte_of 2 b)) (lane_of op I8 (byte_of 3 a) (byte_of 3 b))
+  unfolding lanes_of lanewise
+  lanes_of_i8 = omega arith
 
 -- the laws by which the whole word is worked on
 pub ruleset whole_words = (lanes_of_xor, lanes_of_and, lanes_of_or, lanes_of_i32)

@@ -1,9 +1,8 @@
-use Rattle.std.proofs.Common.{arith, length-append}
-use Rattle.spelling.proofs.DecimalLaws.{digits_of_word}
+use Rattle.std.proofs.Common.{arith, ap, length, length-take}
+use Rattle.spelling.proofs.Stores.{put_front}
 use Rattle.spelling.proofs.line.Line.push_field.Goals as goal
 
-pub push-requires : goal.push-requires
-push-requires c = rw c.push_number.ensures (simp length-append (omega (arith, digits_of_word c.args.n c.ranges.n.fits)))
-
-pub returns-clause-upper_bound : goal.returns-clause-upper_bound
-returns-clause-upper_bound c = rw (c.push.ensures, c.push_number.ensures) (simp length-append (omega (arith, digits_of_word c.args.n c.ranges.n.fits)))
+pub returns-clause-pushed : goal.returns-clause-pushed
+returns-clause-pushed c =
+    let put = c.put_field-self-inside.ensures in
+    rw (← c.self.view_is) (put_front _ _ _ _ _ (omega (arith, put.0.place, put.1, simp length-take at (ap length c.self.view_is))) put.0)
