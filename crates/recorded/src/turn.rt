@@ -81,7 +81,7 @@ fn room<const N: usize>() -> [u8; N] {
     [0u8; N]
 }
 
-// Lays the pieces into rooms of their own, and makes the call. The rooms take 1.4 MiB of stack: not in a caller's frame, which
+// Lays the pieces into rooms of their own, and makes the call. The rooms take 1.3 MiB of stack: not in a caller's frame, which
 // may have no such record.
 #[inline(never)]
 #[tactic(auto, using(crate::proofs::Turns::has_room_lem), unfolding(crate::specs::Turn::turn_seen))]

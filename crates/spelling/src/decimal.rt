@@ -1,5 +1,5 @@
 // Numbers in decimal, put into lent bytes.
-ghost use Rattle.std.specs.Prelude.{◌≡◌, ◌∷◌, [], ◌++◌, ◌+◌, ◌≤◌, length};
+ghost use Rattle.std.specs.Prelude.{◌∷◌, [], ◌++◌, ◌+◌, ◌≤◌, length};
 ghost use Rattle.spelling.specs.Put.{Put};
 ghost use Rattle.spelling.specs.Decimal.{decimal};
 
