@@ -7,8 +7,8 @@ pub(crate) fn transfer(source: &[u8], start: usize, target: &mut [u8], at: usize
     requires { (start + n ≤ length source.now) × (at + n ≤ length target.old) }
     ensures { target.new ≡ transferred source.now start at n target.old }
 {
-    for i in 0..n {
-        target[at + i] = source[start + i];
+    for (i, byte) in source[start..start + n].iter().enumerate() {
+        target[at + i] = *byte;
     }
 }
 
