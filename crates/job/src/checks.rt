@@ -2,7 +2,7 @@
 ghost use Rattle.std.specs.Prelude.{◌≡◌, ◌≤◌, ◌^◌};
 ghost use Rattle.job.specs.Checks.{windows_sound, kernels_sound, code_sound, memory_sound};
 
-use crate::kernels::{has_word, lies_in_code};
+use crate::kernels::{all_have_words, all_lie_in_code};
 use crate::section::{Section, is_whole};
 use pack::kernels::{MOST_CODE, MOST_KERNELS};
 
@@ -20,7 +20,7 @@ pub fn kernels_are_sound(input: &[u8], kernels: Section) -> bool
     ensures { result ≡ kernels_sound input.now kernels }
 {
     is_whole(input, kernels) & (kernels.count <= MOST_KERNELS)
-        && (0..kernels.count).all(|k| has_word(input, kernels.start, k))
+        && all_have_words(input, kernels.start, kernels.count)
 }
 
 #[tactic(auto, unfolding(crate::specs::Checks::code_sound))]
@@ -28,7 +28,7 @@ pub fn code_is_sound(input: &[u8], code: Section, kernels: Section) -> bool
     ensures { result ≡ code_sound input.now code kernels }
 {
     is_whole(input, code) & (code.count <= MOST_CODE)
-        && (0..kernels.count).all(|k| lies_in_code(input, kernels.start, code.count, k))
+        && all_lie_in_code(input, kernels.start, code.count, kernels.count)
 }
 
 #[tactic(auto, unfolding(crate::specs::Checks::memory_sound))]

@@ -81,8 +81,8 @@ fn room<const N: usize>() -> [u8; N] {
     [0u8; N]
 }
 
-// Lays the pieces into rooms of their own, and makes the call. The rooms take 1.3 MiB of stack: not in a caller's frame, which
-// may have no such record.
+// Lays the pieces into rooms of their own, and makes the call. The rooms take 1.3 MiB of stack. Inlined, they would stand in the
+// caller's frame also where there is no record of a turn.
 #[inline(never)]
 #[tactic(auto, using(crate::proofs::Turns::has_room_lem), unfolding(crate::specs::Turn::turn_seen))]
 pub fn compare(body: &[u8]) -> Seen

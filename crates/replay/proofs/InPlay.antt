@@ -55,7 +55,7 @@ module _ {d₀ d : Device} {call₀ call : Call} {memory₀ turns n : ℕ} {text
   line_fits = omega (arith, p.untaken, p.written)
 
   -- the last line ends the text
-  ended : {line lent : List ℕ} {k : ℕ} → all_lines turns d call ≡ line → Appended line n text lent k → k ≤ n + 64 → length lent ≡ 262144
+  ended : {line lent : List ℕ} {k : ℕ} → all_lines turns d call ≡ line → Appended line n text lent k → k ≤ n + 64 → 262144 ≤ length lent
       → Spelled (all_lines 0 d₀ call₀) text₀ lent k
   ended last a short room =
       whole-spelled (last_appended (rw last at p.lines) a) (next-rest text₀ a p.rest) (omega (arith, line_fits))
@@ -65,11 +65,11 @@ module _ {d₀ d : Device} {call₀ call : Call} {memory₀ turns n : ℕ} {text
     same_answer e = sym (ap (λ x. x.answer) shows.answer) ∙ e
 
     pub ends-idle : r.answer ≡ Idle → {lent : List ℕ} {k : ℕ} → Appended (idle_line turns) n text lent k → k ≤ n + 64
-        → length lent ≡ 262144 → Spelled (all_lines 0 d₀ call₀) text₀ lent k
+        → 262144 ≤ length lent → Spelled (all_lines 0 d₀ call₀) text₀ lent k
     ends-idle e = ended (idle-ends turns d call p.shaped (same_answer e))
 
     pub ends-refused : (why : Refusal) → r.answer ≡ Refused why → {lent : List ℕ} {k : ℕ} → Appended (refused_line (refusal_number why)) n text lent k → k ≤ n + 64
-        → length lent ≡ 262144 → Spelled (all_lines 0 d₀ call₀) text₀ lent k
+        → 262144 ≤ length lent → Spelled (all_lines 0 d₀ call₀) text₀ lent k
     ends-refused why e = ended (refused-ends turns d call p.shaped why (same_answer e))
 
     module _ (report : Report) (e : r.answer ≡ Served report) where

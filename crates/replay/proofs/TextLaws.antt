@@ -71,5 +71,5 @@ pub next_appended : {whole line text lent : List ℕ} {n r : ℕ} (rest : List �
 next_appended {line = line} {text = text} {n = n} rest e a = e ∙ sym (append_assoc (take n text) line rest) ∙ ap (λ (l : List ℕ). l ++ rest) (sym a.front)
 
 -- a line that stands alone is the text
-pub alone : {line text lent : List ℕ} {n r : ℕ} → n ≡ 0 → Appended line n text lent r → r ≤ n + 64 → length lent ≡ 262144 → Spelled line text lent r
+pub alone : {line text lent : List ℕ} {n r : ℕ} → n ≡ 0 → Appended line n text lent r → r ≤ n + 64 → 262144 ≤ length lent → Spelled line text lent r
 alone {n = n} none a short room = whole-spelled (a.front ∙ rw none) a.rest (omega arith)

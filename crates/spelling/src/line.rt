@@ -1,5 +1,6 @@
 // The lines that the replay job prints.
 ghost use Rattle.std.specs.Prelude.{◌≡◌, ℕ, List, [], ◌∷◌, ◌++◌, ◌+◌, ◌≤◌, ◌<◌, length, take};
+ghost use Rattle.spelling.specs.Put.{Spelled};
 ghost use Rattle.spelling.specs.Decimal.{decimal};
 ghost use Rattle.spelling.specs.Line.{turn_line, idle_line, refused_line};
 
@@ -66,6 +67,14 @@ impl Line {
         &self.bytes[..self.length]
     }
 
+    fn put(&self, out: &mut [u8; ROOM]) -> usize
+        ensures { Spelled self.now out.old out.new result }
+    {
+        let bytes = self.as_bytes();
+        out[..bytes.len()].copy_from_slice(bytes);
+        bytes.len()
+    }
+
     fn empty() -> Line
         ensures { result ≡ [] }
     {
@@ -100,4 +109,30 @@ impl Line {
     {
         self.length = put_field(&mut self.bytes, self.length, n, last);
     }
+}
+
+// At the front of lent bytes, for who has bytes and no `Line`; the answer is the line's length.
+pub fn spell_turn(
+    out: &mut [u8; ROOM],
+    turn: u32,
+    ring: u32,
+    outcome: u32,
+    fence: u32,
+    words: u32,
+) -> usize
+    ensures { Spelled (turn_line turn ring outcome fence words) out.old out.new result }
+{
+    Line::of_turn(turn, ring, outcome, fence, words).put(out)
+}
+
+pub fn spell_idle(out: &mut [u8; ROOM], turns: u32) -> usize
+    ensures { Spelled (idle_line turns) out.old out.new result }
+{
+    Line::of_idle(turns).put(out)
+}
+
+pub fn spell_refused(out: &mut [u8; ROOM], number: u32) -> usize
+    ensures { Spelled (refused_line number) out.old out.new result }
+{
+    Line::of_refused(number).put(out)
 }

@@ -12,12 +12,12 @@ loop-report-init c = starts _ _ _ _ (omega arith) c.requires.0 c.requires.1 c.re
 pub returns-in-Idle : goal.returns-in-Idle
 returns-in-Idle c =
     let t = c.append_idle in
-    ends-idle c.loop-report.invariant c.turn-turned.ensures c.in-Idle.is t.ensures.appended t.ensures.upper_bound t.new.self.room
+    ends-idle c.loop-report.invariant c.turn-turned.ensures c.in-Idle.is t.ensures.appended t.ensures.upper_bound (omega (arith, t.new.self.room))
 
 pub returns-in-Refused : goal.returns-in-Refused
 returns-in-Refused c =
     let t = c.append_refused in
-    ends-refused c.loop-report.invariant c.turn-turned.ensures _ c.in-Refused.is (rw c.into.ensures at t.ensures.appended) t.ensures.upper_bound t.new.self.room
+    ends-refused c.loop-report.invariant c.turn-turned.ensures _ c.in-Refused.is (rw c.into.ensures at t.ensures.appended) t.ensures.upper_bound (omega (arith, t.new.self.room))
 
 pub loop-report-smaller : goal.loop-report-smaller
 unfolding untaken_in
