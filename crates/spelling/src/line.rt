@@ -111,7 +111,7 @@ impl Line {
     }
 }
 
-// At the front of lent bytes, for who has bytes and no `Line`; the answer is the line's length.
+// The same lines at the front of lent bytes; the answer of each of the three is the line's length.
 pub fn spell_turn(
     out: &mut [u8; ROOM],
     turn: u32,

@@ -1,5 +1,4 @@
 use Rattle.std.proofs.Common.{arith, rules, ℕ, ap}
-use Rattle.std.specs.declared.ops.Range.{Range}
 use borrow.Author.Tests.{tests}
 use Rattle.words.proofs.AllInRange.{all_in_range}
 use Rattle.job.specs.Kernels.{has_word}
