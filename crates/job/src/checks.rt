@@ -1,5 +1,5 @@
 // What a section must be so as not to be refused.
-ghost use Rattle.std.specs.Prelude.{◌≡◌, ◌≤◌, ◌^◌};
+ghost use Rattle.std.specs.Prelude.{◌≡◌};
 ghost use Rattle.job.specs.Checks.{windows_sound, kernels_sound, code_sound, memory_sound};
 
 use crate::kernels::{all_have_words, all_lie_in_code};

@@ -1,5 +1,5 @@
 // The pairs of section 6: each kernel's first word and words.
-ghost use Rattle.std.specs.Prelude.{◌≡◌, ◌≤◌, ◌^◌};
+ghost use Rattle.std.specs.Prelude.{◌≡◌};
 ghost use Rattle.words.specs.Choice.{all_below};
 ghost use Rattle.job.specs.Kernels.{has_word, lies_in_code};
 
